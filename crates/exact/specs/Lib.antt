@@ -1,0 +1,17 @@
+pub mod Claim
+pub mod Ascii
+pub mod Network
+pub mod Pick
+pub mod Field
+pub mod Sequence
+pub mod Choice
+pub mod Machine
+pub mod Parser
+pub mod Unique
+pub mod Numbered
+pub mod Theorem
+pub mod Literal
+pub mod Byte
+pub mod Number
+pub mod Ended
+pub mod Told

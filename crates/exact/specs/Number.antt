@@ -1,0 +1,90 @@
+-- For proofs. The leaf of a 16-bit number in network order that keeps a rule.
+use mathlib.Core.Path.{_≡_, refl, sym, ap, ap₂, _∙_, subst}
+use mathlib.Core.Bool.{Bool, true, false}
+use mathlib.Core.List.{List, [], _∷_, _++_}
+use mathlib.Core.Logic.{_⊎_, inl, inr, ⊎-elim, _↔_}
+use mathlib.Core.Option.{Option, some, none}
+use Prim.Native.Nat.{ℕ, _+_, _*_, _/_, _%_, _<_}
+use native.Mathlib.Omega.{arith}
+use Rattle.exact.specs.Field.{Opens, SeqLang}
+use Rattle.exact.specs.Machine.{leaf}
+use Rattle.exact.specs.Pick.{pick}
+use Rattle.exact.specs.Network.{network}
+use Rattle.exact.specs.Parser.{Parser, _then_, recast}
+use Rattle.exact.specs.Byte.{OneByte, oneByte}
+
+pub record Number (good : ℕ → Bool) (f : List ℕ) (n : ℕ) : Type 0 where
+  pub split : f ≡ network n
+  pub small : n < 65536
+  pub fits : good n ≡ true
+
+abbrev pub any : ℕ → Option ℕ
+any c = some c
+
+abbrev pub low : (ℕ → Bool) → ℕ → ℕ → Option ℕ
+low good h c = pick (good (h * 256 + c)) (some (h * 256 + c)) none
+
+module _ (good : ℕ → Bool) where
+  low-some : (h c : ℕ) (b : Bool) → good (h * 256 + c) ≡ b → (n : ℕ) → pick b (some (h * 256 + c)) none ≡ some n → (n ≡ h * 256 + c) × (b ≡ true)
+  low-some h c true e n s = (cc, refl)
+  low-some h c false e n s = (let z : _≡_ {A = ℕ} 0 1 = cc in absurd (omega arith), let z : _≡_ {A = ℕ} 0 1 = cc in absurd (omega arith))
+
+  pub some-low : (h c : ℕ) (b : Bool) → b ≡ true → pick b (some (h * 256 + c)) none ≡ some (h * 256 + c)
+  some-low h c b e = rw e
+
+  module _ (k : ℕ) (opens : (h : ℕ) → (c : ℕ) × (c < 256) × (good (h * 256 + c) ≡ true)) where
+    abbrev pub high-byte : Parser ℕ
+    high-byte = oneByte any k 0 0 (omega arith) refl
+
+    abbrev pub low-byte : ℕ → Parser ℕ
+    low-byte h =
+        let o = opens h in
+        oneByte (low good h) k (o .0) (h * 256 + o .0) (o .1) (some-low h (o .0) (good (h * 256 + o .0)) (o .2))
+
+    abbrev pub both : Parser ℕ
+    both = high-byte then low-byte
+
+    pub to-number : (f : List ℕ) (n : ℕ) → both .field .lang f n → Number good f n
+    to-number f n l =
+        let x = l .first in
+        let y = l .second in
+        let xs = x .split in
+        let ys = y .split in
+        let h : x .byte ≡ l .mid = let v = x .value in cc in
+        let q = low-some (l .mid) (y .byte) (good (l .mid * 256 + y .byte)) refl n (y .value) in
+        let small-h = x .small in
+        let small-l = y .small in
+        let sum = q .0 in
+        let text : f ≡ x .byte ∷ y .byte ∷ [] = l .split ∙ ap₂ _++_ (x .split) (y .split) in
+        record {
+          split = text ∙ ap₂ (λ (a b : ℕ). a ∷ b ∷ []) (omega arith) (omega arith);
+          small = omega arith;
+          fits = subst (λ (m : ℕ). good m ≡ true) (sym sum) (q .1);
+        }
+
+    pub from-number : (f : List ℕ) (n : ℕ) → Number good f n → both .field .lang f n
+    from-number f n l =
+        let small-n = l .small in
+        let whole : n / 256 * 256 + n % 256 ≡ n = omega arith in
+        record {
+          front = n / 256 ∷ [];
+          back = n % 256 ∷ [];
+          mid = n / 256;
+          split = l .split;
+          first = record { byte = n / 256; split = refl; small = omega arith; value = refl };
+          second = record {
+            byte = n % 256;
+            split = refl;
+            small = omega arith;
+            value =
+                some-low (n / 256) (n % 256) (good (n / 256 * 256 + n % 256)) (subst (λ (m : ℕ). good m ≡ true) (sym whole) (l .fits))
+                ∙ ap some whole;
+          };
+        }
+
+    pub same-part : (u : List ℕ) (j : ℕ) → Opens (both .field) u → both .field .at u j → j ≡ k
+    same-part u j o (inl x) = x .1
+    same-part u j o (inr x) = x .part
+
+    abbrev pub number16 : Parser ℕ
+    number16 = recast both (leaf k (Number good)) (λ f n. (to-number f n, from-number f n)) same-part

@@ -1,0 +1,252 @@
+-- For proofs. A parser: a field with a function whose every verdict on it is exact. Each leaf is one, and the laws make one of others.
+use mathlib.Core.Path.{_≡_, refl, sym, ap, _∙_, subst}
+use mathlib.Core.Bool.{Bool, true, false}
+use mathlib.Core.List.{List, [], _∷_, _++_, append-nil}
+use mathlib.Core.Logic.{_⊎_, inl, inr, ⊎-elim, _↔_}
+use Prim.Native.Nat.{ℕ, _+_, _-_, _≤_, _<_}
+use native.Mathlib.Omega.{arith}
+use lib.ListN.{length, take, drop, length-append, length-drop}
+use lib.Seq.{take-all, take-at}
+use Rattle.exact.specs.Claim.{Verdict, accepted, more, refused, AllBytes}
+use Rattle.exact.specs.Field.{Field, Begins, Alive, Opens, Only, Accepts, Refuses, Exact, SeqLang, seq, after, shift}
+use Rattle.exact.specs.Sequence.{begins-more, seq-exact, opens-first}
+use Rattle.exact.specs.Machine.{leaf, Move, go, Runs, run, runs-exact}
+use Rattle.exact.specs.Choice.{pure, pure-exact, alt, choose, alt-exact}
+
+-- every whole field is of bytes
+abbrev pub InBytes : {A : Type 0} → Field A → Type 0
+InBytes {A} F = (f : List ℕ) (a : A) → F .lang f a → AllBytes f
+
+pub record Parser (A : Type 0) : Type 1 where
+  pub field : Field A
+  pub verdict : List ℕ → Verdict A
+  pub exact : (s : List ℕ) → Exact field (verdict s) s
+  pub opens : Opens field []
+  pub bytes : InBytes field
+
+pub bytes-append : (s t : List ℕ) → AllBytes s → AllBytes t → AllBytes (s ++ t)
+bytes-append [] t x y = y
+bytes-append (c ∷ s) t x y = (x .0, bytes-append s t (x .1) y)
+
+pub bytes-front : (s t : List ℕ) → AllBytes (s ++ t) → AllBytes s
+bytes-front [] t x = tt
+bytes-front (c ∷ s) t x = (x .0, bytes-front s t (x .1))
+
+pub bytes-back : (s t : List ℕ) → AllBytes (s ++ t) → AllBytes t
+bytes-back [] t x = x
+bytes-back (c ∷ s) t x = bytes-back s t (x .1)
+
+-- ── the parsers that the laws make ──
+abbrev pub just : {A : Type 0} → A → Parser A
+just a =
+    record {
+      field = pure a;
+      verdict = λ s. accepted a 0;
+      exact = λ s. pure-exact a s;
+      opens = record { tail = []; value = a; whole = (refl, refl) };
+      bytes = λ f b l. subst AllBytes (sym (l .0)) tt;
+    }
+
+pub bytes-seq : {A B : Type 0} (F : Field A) (G : A → Field B) → InBytes F → ((a : A) → InBytes (G a)) → InBytes (seq F G)
+bytes-seq F G x y f b l = subst AllBytes (sym (l .split)) (bytes-append (l .front) (l .back) (x _ _ (l .first)) (y _ _ _ (l .second)))
+
+infixl 40 _then_
+abbrev pub _then_ : {A B : Type 0} → Parser A → (A → Parser B) → Parser B
+P then Q =
+    record {
+      field = seq (P .field) (λ a. Q a .field);
+      verdict = λ s. after (P .verdict s) (λ a r. Q a .verdict r) s;
+      exact = λ s.
+          seq-exact (P .field) (λ a. Q a .field) (λ a r. Q a .verdict r) (λ a f l. Q a .opens) (λ a f r l. Q a .exact r)
+          (P .verdict s) s (P .exact s);
+      opens = opens-first (P .field) (λ a. Q a .field) (λ a f l. Q a .opens) [] (P .opens);
+      bytes = bytes-seq (P .field) (λ a. Q a .field) (P .bytes) (λ a. Q a .bytes);
+    }
+
+-- the choice by the first byte: fields of F begin with a byte for which `first` is true, those of G with another
+pub record Starts {A : Type 0} (first : ℕ → Bool) (b : Bool) (F : Field A) : Type 0 where
+  pub solid : (a : A) → F .lang [] a → ⊥
+  pub head : (c : ℕ) (f : List ℕ) (a : A) → F .lang (c ∷ f) a → first c ≡ b
+
+abbrev pub either : {A : Type 0} (first : ℕ → Bool) (P Q : Parser A) → Starts first true (P .field) → Starts first false (Q .field) → Parser A
+either first P Q st-P st-Q =
+    record {
+      field = alt first (P .field) (Q .field);
+      verdict = choose first (P .verdict) (Q .verdict);
+      exact =
+          alt-exact first (P .field) (Q .field) (P .verdict) (Q .verdict) (P .exact) (Q .exact) (st-P .solid) (st-Q .solid) (st-P .head)
+          (st-Q .head) (P .opens);
+      opens = record { tail = P .opens .tail; value = P .opens .value; whole = inl (P .opens .whole) };
+      bytes = λ f a. ⊎-elim (P .bytes f a) (Q .bytes f a);
+    }
+
+-- a machine, from a good state q
+abbrev pub machine : {Q A : Type 0} (k : ℕ) (Ok : Q → Type 0) (step : Q → ℕ → Move Q A)
+    → ((q : Q) → Ok q → (f : List ℕ) × (a : A) × Runs step q f a)
+    → ((q : Q) (c : ℕ) (p : Q) → Ok q → step q c ≡ go p → Ok p)
+    → (q : Q) → Ok q → InBytes (leaf k (Runs step q)) → Parser A
+machine k Ok step opens keeps q ok in-bytes =
+    record {
+      field = leaf k (Runs step q);
+      verdict = λ s. run k step s q;
+      exact = λ s. runs-exact k Ok step opens keeps s q ok;
+      opens = let o = opens q ok in record { tail = o .0; value = o .1; whole = o .2 };
+      bytes = in-bytes;
+    }
+
+-- ── the same verdicts, for a field with the same members, whose numbers follow from the first one's where bytes can be completed ──
+module _ {A : Type 0} (F G : Field A) (same : (f : List ℕ) (a : A) → F .lang f a ↔ G .lang f a)
+    (parts : (u : List ℕ) (k : ℕ) → Opens F u → (Begins F u → ⊥) → F .at u k → G .at u k)
+  where
+    pub opens-same : (s : List ℕ) → Opens F s → Opens G s
+    opens-same s o = record { tail = o .tail; value = o .value; whole = same _ _ .0 (o .whole) }
+
+    begins-back : (s : List ℕ) → Begins G s → Begins F s
+    begins-back s b =
+        record { front = b .front; rest = b .rest; value = b .value; split = b .split; whole = same _ _ .1 (b .whole) }
+
+    pub same-exact : (v : Verdict A) (s : List ℕ) → Exact F v s → Exact G v s
+    same-exact (accepted a n) s x =
+        record {
+          front = x .front;
+          rest = x .rest;
+          split = x .split;
+          size = x .size;
+          whole = same _ _ .0 (x .whole);
+          only = λ u y g b e l. x .only u y g b e (same _ _ .1 l);
+        }
+    same-exact more s x = record { none = λ b. x .none (begins-back s b); opens = opens-same s (x .opens) }
+    same-exact (refused k p) s x =
+        record {
+          front = x .front;
+          byte = x .byte;
+          rest = x .rest;
+          split = x .split;
+          size = x .size;
+          opens = opens-same _ (x .opens);
+          dead = λ v. x .dead (record { more-bytes = v .more-bytes; begins = begins-back _ (v .begins) });
+          part = parts _ _ (x .opens) (λ b. x .dead (begins-more F _ _ b)) (x .part);
+        }
+
+abbrev pub recast : {A : Type 0} (P : Parser A) (G : Field A) → ((f : List ℕ) (a : A) → P .field .lang f a ↔ G .lang f a)
+    → ((u : List ℕ) (k : ℕ) → Opens (P .field) u → P .field .at u k → G .at u k) → Parser A
+recast P G same parts =
+    record {
+      field = G;
+      verdict = P .verdict;
+      exact = λ s. same-exact (P .field) G same (λ u k o n x. parts u k o x) (P .verdict s) s (P .exact s);
+      opens = opens-same (P .field) G same (λ u k o n x. parts u k o x) [] (P .opens);
+      bytes = λ f a l. P .bytes f a (same f a .1 l);
+    }
+
+-- ── the field whose value is its text ──
+pub record Spelled {A : Type 0} (L : List ℕ → A → Type 0) (f t : List ℕ) : Type 0 where
+  pub value : A
+  pub whole : L f value
+  pub text : t ≡ f
+
+abbrev pub spelledField : {A : Type 0} → Field A → Field (List ℕ)
+spelledField F = record { lang = Spelled (F .lang); at = F .at }
+
+abbrev pub spell : {A : Type 0} → Verdict A → List ℕ → Verdict (List ℕ)
+spell (accepted a n) s = accepted (take n s) n
+spell more s = more
+spell (refused k p) s = refused k p
+
+module _ {A : Type 0} (F : Field A) where
+  begins-spelled : (s : List ℕ) → Begins (spelledField F) s → Begins F s
+  begins-spelled s b =
+      record { front = b .front; rest = b .rest; value = b .whole .value; split = b .split; whole = b .whole .whole }
+
+  pub opens-spelled : (s : List ℕ) → Opens F s → Opens (spelledField F) s
+  opens-spelled s o =
+      record { tail = o .tail; value = s ++ o .tail; whole = record { value = o .value; whole = o .whole; text = refl } }
+
+  pub spelled-exact : (v : Verdict A) (s : List ℕ) → Exact F v s → Exact (spelledField F) (spell v s) s
+  spelled-exact (accepted a n) s x =
+      let here : take n s ≡ x .front = rw (x .split) (take-at (x .front) (x .rest) n (x .size)) in
+      record {
+        front = x .front;
+        rest = x .rest;
+        split = x .split;
+        size = x .size;
+        whole = record { value = a; whole = x .whole; text = here };
+        only = λ u y g b e l.
+            let q = x .only u y g (l .value) e (l .whole) in
+            (q .0, l .text ∙ q .0 ∙ sym here);
+      }
+  spelled-exact more s x = record { none = λ b. x .none (begins-spelled s b); opens = opens-spelled s (x .opens) }
+  spelled-exact (refused k p) s x =
+      record {
+        front = x .front;
+        byte = x .byte;
+        rest = x .rest;
+        split = x .split;
+        size = x .size;
+        opens = opens-spelled _ (x .opens);
+        dead = λ v. x .dead (record { more-bytes = v .more-bytes; begins = begins-spelled _ (v .begins) });
+        part = x .part;
+      }
+
+abbrev pub spelled : {A : Type 0} → Parser A → Parser (List ℕ)
+spelled P =
+    record {
+      field = spelledField (P .field);
+      verdict = λ s. spell (P .verdict s) s;
+      exact = λ s. spelled-exact (P .field) (P .verdict s) s (P .exact s);
+      opens = opens-spelled (P .field) [] (P .opens);
+      bytes = λ f t l. P .bytes f (l .value) (l .whole);
+    }
+
+-- ── how a sequence's verdict follows from its parts', as code finds it ──
+-- how many bytes a verdict speaks of
+abbrev pub reach : {A : Type 0} → Verdict A → ℕ
+reach (accepted a n) = n
+reach more = 0
+reach (refused k p) = p
+
+reach-exact : {A : Type 0} (F : Field A) (v : Verdict A) (s : List ℕ) → Exact F v s → reach v ≤ length s
+reach-exact F (accepted a n) s x = let e = x .size in rw (x .split) (simp length-append (omega arith))
+reach-exact F more s x = omega arith
+reach-exact F (refused k p) s x = let e = x .size in rw (x .split) (simp length-append (omega arith))
+
+module _ {A : Type 0} (P : Parser A) (s : List ℕ) where
+  pub reach-le : (v : Verdict A) → v ≡ P .verdict s → reach v ≤ length s
+  reach-le v e = rw e (reach-exact (P .field) (P .verdict s) s (P .exact s))
+
+  module _ {B : Type 0} (Q : A → Parser B) where
+    pub then-more : more ≡ P .verdict s → more ≡ (P then Q) .verdict s
+    then-more e = ap (λ (v : Verdict A). after v (λ a r. Q a .verdict r) s) e
+
+    pub then-refused : (k p : ℕ) → refused k p ≡ P .verdict s → refused k p ≡ (P then Q) .verdict s
+    then-refused k p e = ap (λ (v : Verdict A). after v (λ a r. Q a .verdict r) s) e
+
+    pub then-accepted : (a : A) (n : ℕ) (w : Verdict B) → accepted a n ≡ P .verdict s → w ≡ Q a .verdict (drop n s)
+        → shift n w ≡ (P then Q) .verdict s
+    then-accepted a n w e h = rw h (ap (λ (v : Verdict A). after v (λ a r. Q a .verdict r) s) e)
+
+  pub then-just : {B : Type 0} (f : A → B) (a : A) (n : ℕ) → accepted a n ≡ P .verdict s → accepted (f a) n ≡ (P then λ x. just (f x)) .verdict s
+  then-just f a n e =
+      ap (λ (m : ℕ). accepted (f a) m) (omega arith)
+      ∙ then-accepted (λ x. just (f x)) a n (accepted (f a) 0) e refl
+
+-- what a slice `&s[n..]` holds
+pub tail-all : (n : ℕ) (s : List ℕ) → take (length s - n) (drop n s) ≡ drop n s
+tail-all n s = take-all (length s - n) (drop n s) (simp length-drop (omega arith))
+
+-- ── the first byte, for the choice law ──
+module _ {A B : Type 0} (first : ℕ → Bool) (b : Bool) (F : Field A) (G : A → Field B) (st : Starts first b F) where
+  no-empty : (h r : List ℕ) (a : A) → [] ≡ h ++ r → F .lang h a → ⊥
+  no-empty [] r a e l = st .solid a l
+  no-empty (d ∷ h) r a e l = let z : _≡_ {A = ℕ} 0 1 = cc in omega arith
+
+  head-of : (c : ℕ) (s h r : List ℕ) (a : A) → c ∷ s ≡ h ++ r → F .lang h a → first c ≡ b
+  head-of c s [] r a e l = absurd (st .solid a l)
+  head-of c s (d ∷ h) r a e l = let q : c ≡ d = cc in rw q (st .head d h a l)
+
+  pub starts-seq : Starts first b (seq F G)
+  starts-seq =
+      record {
+        solid = λ a l. no-empty (l .front) (l .back) (l .mid) (l .split) (l .first);
+        head = λ c f a l. head-of c f (l .front) (l .back) (l .mid) (l .split) (l .first);
+      }

@@ -1,0 +1,85 @@
+-- For proofs. A whole field begins no other, where each text has an exact verdict.
+use mathlib.Core.Path.{_≡_, refl, sym, ap, _∙_, subst}
+use mathlib.Core.List.{List, [], _∷_, _++_, append-assoc, append-nil}
+use mathlib.Core.Logic.{_⊎_, inl, inr, ⊎-elim}
+use Prim.Native.Nat.{ℕ}
+use lib.Seq.{append-snoc}
+use Rattle.exact.specs.Claim.{Verdict, accepted, more, refused}
+use Rattle.exact.specs.Field.{Field, Begins, Alive, Opens, Only, Refuses, Exact}
+use Rattle.exact.specs.Parser.{Parser}
+
+-- two fronts of one text: one continues the other
+pub fronts : (s t f r : List ℕ) → s ++ t ≡ f ++ r → ((m : List ℕ) × (f ≡ s ++ m)) ⊎ ((m : List ℕ) × (s ≡ f ++ m))
+fronts [] t f r e = inl (f, refl)
+fronts (x ∷ s) t [] r e = inr (x ∷ s, refl)
+fronts (x ∷ s) t (y ∷ f) r e =
+    let h : x ≡ y = cc in
+    ⊎-elim (λ q. inl (q .0, cc)) (λ q. inr (q .0, cc)) (fronts s t f r cc)
+
+module _ {A : Type 0} (F : Field A) where
+  abbrev pub begins-whole : (s : List ℕ) (a : A) → F .lang s a → Begins F s
+  begins-whole s a w = record { front = s; rest = []; value = a; split = sym (append-nil s); whole = w }
+
+  pub begins-longer : (s t : List ℕ) → Begins F s → Alive F (s ++ t)
+  begins-longer s t b =
+      record {
+        more-bytes = [];
+        begins = record {
+          front = b .front;
+          rest = b .rest ++ t;
+          value = b .value;
+          split = rw (append-nil, b .split) (simp append-assoc);
+          whole = b .whole;
+        };
+      }
+
+  pub begins-alive : (s : List ℕ) → Begins F s → Alive F s
+  begins-alive s b =
+      record {
+        more-bytes = [];
+        begins = record { front = b .front; rest = b .rest; value = b .value; split = rw append-nil (b .split); whole = b .whole };
+      }
+
+  pub alive-opens : (s t : List ℕ) → Opens F (s ++ t) → Alive F s
+  alive-opens s t o =
+      record {
+        more-bytes = t ++ o .tail;
+        begins = record {
+          front = s ++ t ++ o .tail;
+          rest = [];
+          value = o .value;
+          split = simp (append-assoc, append-nil);
+          whole = o .whole;
+        };
+      }
+
+  -- what is refused has no continuation
+  pub refused-dead : {k p : ℕ} {s : List ℕ} → Refuses F k p s → Alive F s → ⊥
+  refused-dead x a =
+      x .dead
+      (record {
+        more-bytes = x .rest ++ a .more-bytes;
+        begins = record {
+          front = a .begins .front;
+          rest = a .begins .rest;
+          value = a .begins .value;
+          split =
+              sym (append-assoc (x .front ++ x .byte ∷ []) (x .rest) (a .more-bytes))
+              ∙ ap (λ (t : List ℕ). t ++ a .more-bytes) (append-snoc (x .front) (x .byte) (x .rest) ∙ sym (x .split))
+              ∙ a .begins .split;
+          whole = a .begins .whole;
+        };
+      })
+
+  only-same : (g h : List ℕ) (c d : A) → g ≡ h → c ≡ d → Only F g c → Only F h d
+  only-same g h c d e e′ o = subst (λ (z : A). Only F h z) e′ (subst (λ (y : List ℕ). Only F y c) e o)
+
+  pub unique-of : (v : Verdict A) (f : List ℕ) (a : A) → Exact F v f → F .lang f a → Only F f a
+  unique-of (accepted b n) f a x l =
+      let q = x .only (x .rest) [] f a (sym (x .split) ∙ sym (append-nil f)) l in
+      only-same (x .front) f b a (sym (q .0)) (sym (q .1)) (x .only)
+  unique-of more f a x l = absurd (x .none (begins-whole f a l))
+  unique-of (refused k p) f a x l = absurd (refused-dead x (begins-alive f (begins-whole f a l)))
+
+pub unique : {A : Type 0} (P : Parser A) (f : List ℕ) (a : A) → P .field .lang f a → Only (P .field) f a
+unique P f a = unique-of (P .field) (P .verdict f) f a (P .exact f)

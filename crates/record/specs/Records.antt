@@ -1,0 +1,38 @@
+-- What a record holds (document 01, "The record").
+use mathlib.Core.Path.{_≡_}
+use mathlib.Core.List.{List, [], _++_}
+use Prim.Native.Nat.{ℕ, _-_, _<_}
+use lib.ListN.{length, drop, replicate}
+use Rattle.exact.specs.Claim.{AllBytes}
+use Rattle.record.specs.declared.Kind.{Kind}
+use Rattle.record.specs.declared.Kind.the-variants.{Local, Unspecified, Ip4, Ip6, Unix}
+use Rattle.record.specs.declared.Record.{Record}
+use Rattle.record.specs.Kinds.{addressLength}
+
+-- "Addresses of 4, 16 or 108 bytes are held by value": an address as a record holds it, with zeros up to 108 bytes
+abbrev pub held : List ℕ → List ℕ
+held a = a ++ replicate (108 - length a) 0
+
+-- the record of a kind, with its addresses and ports
+abbrev pub recordOf : Kind → List ℕ → List ℕ → ℕ → ℕ → Record
+recordOf k from to p q =
+    record { kind = k; source = held from; destination = held to; «source_port» = p; «destination_port» = q }
+
+-- a record of a kind without addresses
+abbrev pub bare : Kind → Record
+bare k = recordOf k [] [] 0 0
+
+-- "UNIX has no ports": the ports of a kind that has none are zero
+abbrev pub PortFits : Kind → ℕ → Type 0
+PortFits Local p = p ≡ 0
+PortFits Unspecified p = p ≡ 0
+PortFits (Ip4 t) p = p < 65536
+PortFits (Ip6 t) p = p < 65536
+PortFits (Unix t) p = p ≡ 0
+
+-- "Address bytes and ports that a kind does not use are zero"
+pub record Clean (r : Record) : Type 0 where
+  pub source : drop (addressLength (r .kind)) (r .source) ≡ replicate (108 - addressLength (r .kind)) 0
+  pub destination : drop (addressLength (r .kind)) (r .destination) ≡ replicate (108 - addressLength (r .kind)) 0
+  pub «source_port» : PortFits (r .kind) (r .«source_port»)
+  pub «destination_port» : PortFits (r .kind) (r .«destination_port»)
