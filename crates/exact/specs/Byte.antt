@@ -12,7 +12,7 @@ use Rattle.exact.specs.Claim.{Verdict, accepted, more, refused, AllBytes
 use Rattle.exact.specs.Field.{Field, Exact}
 use Rattle.exact.specs.Machine.{leaf, Move, go, done, dead, Sound, run, machine-exact}
 use Rattle.exact.specs.Pick.{pick, pick-by}
-use Rattle.exact.specs.Parser.{Parser, Starts, just, recast}
+use Rattle.exact.specs.Parser.{Parser}
 
 -- ── one byte, whose value the table gives ──
 module _ {A : Type 0} (table : ℕ → Option A) where
@@ -122,24 +122,33 @@ zeros-bytes (suc n) = (omega arith, zeros-bytes n)
 pub zeros : (n : ℕ) → Count n (replicate n 0) 0
 zeros n = record { size = length-replicate n 0; bytes = zeros-bytes n; none = refl }
 
-pub count-exact : (k m : ℕ) (s : List ℕ) → Exact (leaf k (Count (suc m))) (run k stepCount s m) s
-count-exact k m s =
+count-run : (k m : ℕ) (s : List ℕ) → Exact (leaf k (Count (suc m))) (run k stepCount s m) s
+count-run k m s =
     machine-exact k (λ (q : ℕ). Count (suc q)) Good stepCount (λ q ok. (replicate (suc q) 0, 0, zeros (suc q)))
     (λ q ok a l. let e = l .size in omega arith) count-sound s m tt
 
-abbrev pub count : ℕ → ℕ → Parser ℕ
-count k zero =
-    recast (just 0) (leaf k (Count 0))
-    (λ f a. (
-      λ l. record { size = ap length (l .0); bytes = subst AllBytes (sym (l .0)) tt; none = l .1 },
-      λ l. (empty-of f (l .size), l .none),
-    ))
-    (λ u j o x. absurd x)
-count k (suc m) =
+abbrev pub countVerdict : ℕ → ℕ → List ℕ → Verdict ℕ
+countVerdict k zero s = accepted 0 0
+countVerdict k (suc m) s = run k stepCount s m
+
+pub count-exact : (k n : ℕ) (s : List ℕ) → Exact (leaf k (Count n)) (countVerdict k n s) s
+count-exact k zero s =
     record {
-      field = leaf k (Count (suc m));
-      verdict = λ s. run k stepCount s m;
-      exact = count-exact k m;
-      opens = record { tail = replicate (suc m) 0; value = 0; whole = zeros (suc m) };
+      front = [];
+      rest = s;
+      split = refl;
+      size = refl;
+      whole = record { size = refl; bytes = tt; none = refl };
+      only = λ x y g b e l. (empty-of g (l .size), l .none);
+    }
+count-exact k (suc m) s = count-run k m s
+
+abbrev pub count : ℕ → ℕ → Parser ℕ
+count k n =
+    record {
+      field = leaf k (Count n);
+      verdict = countVerdict k n;
+      exact = count-exact k n;
+      opens = record { tail = replicate n 0; value = 0; whole = zeros n };
       bytes = λ f a l. l .bytes;
     }

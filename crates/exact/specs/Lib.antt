@@ -8,10 +8,10 @@ pub mod Choice
 pub mod Machine
 pub mod Parser
 pub mod Unique
-pub mod Numbered
 pub mod Theorem
 pub mod Literal
 pub mod Byte
 pub mod Number
 pub mod Ended
 pub mod Told
+pub mod Numbered

@@ -5,12 +5,17 @@ use mathlib.Core.List.{List, [], _∷_, _++_, append-assoc, append-nil, append-c
 use mathlib.Core.Logic.{_⊎_, inl, inr, ⊎-elim}
 use Prim.Native.Nat.{ℕ}
 use native.Mathlib.Omega.{arith}
+use lib.Dec.{eqb}
+use lib.Seq.{append-snoc}
+use borrow.Author.Tests.{eqb-true}
+use Rattle.exact.specs.Claim.{AllBytes}
 use Rattle.exact.specs.Field.{Field, Begins, Opens, Only, SeqLang, InSecond, seq}
 use Rattle.exact.specs.Machine.{leaf}
 use Rattle.exact.specs.Choice.{pure, alt, altAt}
 use Rattle.exact.specs.Pick.{pick}
 use Rattle.exact.specs.Parser.{Parser, Starts, just, _then_, either}
 use Rattle.exact.specs.Unique.{fronts, unique}
+use Rattle.exact.specs.Literal.{Literal, text}
 
 module _ (number : List ℕ → ℕ) where
   abbrev pub Numbered : {A : Type 0} → Field A → List ℕ → Type 0
@@ -27,6 +32,30 @@ module _ (number : List ℕ → ℕ) where
       by : (t : List ℕ) → L (u ++ t) (o .value) → j ≡ number (before ++ u)
       by [] l = absurd (none (record { front = u ++ []; rest = []; value = o .value; split = simp append-nil; whole = l }))
       by (c ∷ t) l = proper u c t (o .value) l
+
+  -- a literal, by a test of its proper prefixes that is computed
+  abbrev pub allPlaces : ℕ → List ℕ → List ℕ → Bool
+  allPlaces k before [] = true
+  allPlaces k before (x ∷ w) = pick (eqb (number before) k) (allPlaces k (before ++ x ∷ []) w) false
+
+  pick-both : (b c : Bool) → pick b c false ≡ true → (b ≡ true) × (c ≡ true)
+  pick-both true c e = (refl, e)
+  pick-both false c e = let z : _≡_ {A = ℕ} 0 1 = cc in (absurd (omega arith), absurd (omega arith))
+
+  all-places : (k : ℕ) (before w : List ℕ) → allPlaces k before w ≡ true → (u : List ℕ) (c : ℕ) (t : List ℕ) → u ++ c ∷ t ≡ w → k ≡ number (before ++ u)
+  all-places k before [] e [] c t s = let z : _≡_ {A = ℕ} 0 1 = cc in absurd (omega arith)
+  all-places k before [] e (y ∷ u) c t s = let z : _≡_ {A = ℕ} 0 1 = cc in absurd (omega arith)
+  all-places k before (x ∷ w) e [] c t s =
+      sym (eqb-true (number before) k (pick-both (eqb (number before) k) _ e .0)) ∙ ap number (sym (append-nil before))
+  all-places k before (x ∷ w) e (y ∷ u) c t s =
+      let h : y ≡ x = cc in
+      all-places k (before ++ x ∷ []) w (pick-both (eqb (number before) k) _ e .1) u c t (cc)
+      ∙ ap number (append-snoc before x u ∙ ap (λ (z : ℕ). before ++ z ∷ u) (sym h))
+
+  pub numbered-text : {A : Type 0} (k : ℕ) (a : A) (x : ℕ) (w : List ℕ) (bytes : AllBytes (x ∷ w)) (before : List ℕ)
+      → allPlaces k before (x ∷ w) ≡ true → Numbered (text k a x w bytes .field) before
+  numbered-text k a x w bytes before e =
+      numbered-leaf k (Literal a (x ∷ w)) before (λ u c t b l. all-places k before (x ∷ w) e u c t (l .0))
 
   module _ {A B : Type 0} (P : Parser A) (Q : A → Parser B) (before : List ℕ) where
     abbrev F : Field A

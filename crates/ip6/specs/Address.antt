@@ -1,0 +1,74 @@
+-- IPv6 text (document 01, "The text line"): which bytes are an address, and the eight groups that it says.
+use mathlib.Core.Path.{_≡_}
+use mathlib.Core.Bool.{Bool, false}
+use mathlib.Core.List.{List, [], _∷_, _++_}
+use mathlib.Core.Logic.{_⊎_}
+use Prim.Native.Nat.{ℕ, _+_, _*_, _-_, _≤_, _<_}
+use Prim.Native.Char.{Char, code}
+use lib.Dec.{leb}
+use lib.ListN.{length, replicate}
+use Rattle.exact.specs.Ascii.{ascii}
+use Rattle.exact.specs.Pick.{pick}
+
+-- c is one of the characters from a to z
+abbrev pub among : Char → Char → ℕ → Bool
+among a z c = pick (leb (code a) c) (leb c (code z)) false
+
+-- the value of a hex digit "in either case"; 16 where c is none
+unfoldable pub hexOf : ℕ → ℕ
+hexOf c =
+    pick (among "0" "9" c) (c - code "0")
+    (pick (among "a" "f" c) (c - code "a" + 10)
+    (pick (among "A" "F" c) (c - code "A" + 10) 16))
+
+abbrev pub HexDigits : List ℕ → Type 0
+HexDigits [] = Unit {0}
+HexDigits (c ∷ ds) = (hexOf c < 16) × HexDigits ds
+
+-- the number that hex digits make behind those that make v
+abbrev pub number : ℕ → List ℕ → ℕ
+number v [] = v
+number v (c ∷ ds) = number (v * 16 + hexOf c) ds
+
+-- "groups of 1 to 4 hex digits in either case"
+pub record Group (f : List ℕ) (v : ℕ) : Type 0 where
+  pub digits : HexDigits f
+  pub some : 1 ≤ length f
+  pub few : length f ≤ 4
+  pub value : v ≡ number 0 f
+
+-- "with colons": groups, at least one, and a colon between two
+abbrev pub Groups : List ℕ → List ℕ → Type 0
+Groups f [] = ⊥
+Groups f (v ∷ []) = Group f v
+Groups f (v ∷ w ∷ vs) =
+    (first : List ℕ) × (rest : List ℕ) × (f ≡ first ++ ascii ":" ++ rest) × Group first v × Groups rest (w ∷ vs)
+
+-- "Either eight groups"
+pub record Full (f vs : List ℕ) : Type 0 where
+  pub groups : Groups f vs
+  pub eight : length vs ≡ 8
+
+-- what stands on one side of "::": nothing, or groups
+abbrev pub Side : List ℕ → List ℕ → Type 0
+Side f [] = f ≡ []
+Side f (v ∷ vs) = Groups f (v ∷ vs)
+
+-- what "::" stands for: as many zero groups as make eight
+abbrev pub filled : List ℕ → List ℕ → List ℕ
+filled before behind = before ++ replicate (8 - (length before + length behind)) 0 ++ behind
+
+-- "or one "::" anywhere with at most seven groups, standing for at least one zero group"
+pub record Shortened (f vs : List ℕ) : Type 0 where
+  pub left : List ℕ
+  pub right : List ℕ
+  pub before : List ℕ
+  pub behind : List ℕ
+  pub split : f ≡ left ++ ascii "::" ++ right
+  pub left-side : Side left before
+  pub right-side : Side right behind
+  pub seven : length before + length behind ≤ 7
+  pub value : vs ≡ filled before behind
+
+abbrev pub Address : List ℕ → List ℕ → Type 0
+Address f vs = Full f vs ⊎ Shortened f vs

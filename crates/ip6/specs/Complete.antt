@@ -1,0 +1,60 @@
+-- For proofs. Every state that bytes lead to can be completed.
+use mathlib.Core.Path.{_≡_, refl, _∙_}
+use mathlib.Core.Bool.{Bool, true, false}
+use mathlib.Core.List.{List, [], _∷_}
+use Prim.Native.Nat.{ℕ, _<_}
+use native.Mathlib.Omega.{arith}
+use lib.Dec.{eqb}
+use lib.ListN.{length}
+use borrow.Author.Tests.{eqb-false, lt-ltb}
+use Rattle.ip6.specs.Address.{hexOf, filled}
+use Rattle.ip6.specs.Bytes.{hex-zero}
+use Rattle.ip6.specs.Machine.{Seen, plain, gapped, push, room, State, start, group, digits, behind, colon, gap, begin, step}
+use Rattle.ip6.specs.Read.{Fits, fits-push, Good}
+use Rattle.ip6.specs.Steps.{Ending, colon-no-digit, begin-digit, Takes, goes, ends, alike, colon-colon, gap-end, follow-colon, follow-end, digits-follow}
+
+module _ (end : ℕ) (e : Ending end) where
+  abbrev Completes : State → Type 0
+  Completes q = (f : List ℕ) × (vs : List ℕ) × Takes end q f vs
+
+  gap-completes : (l : List ℕ) → Completes (gap l)
+  gap-completes l = (end ∷ [], filled l [], ends end (gap l) end (filled l []) (gap-end end l))
+
+  colon-completes : (l : List ℕ) → Completes (colon (plain l))
+  colon-completes l = let r = gap-completes l in (58 ∷ r .0, r .1, goes end (colon (plain l)) (gap l) 58 (r .0) (r .1) (colon-colon end l) (r .2))
+
+  -- behind a group, by a byte that is no digit
+  abbrev Closes : Seen → Type 0
+  Closes s = (c : ℕ) × (f : List ℕ) × (vs : List ℕ) × (hexOf c < 16 → ⊥) × Takes end (behind s) (c ∷ f) vs
+
+  behind-closes : (s : Seen) → Fits s → Closes s
+  behind-closes (plain l) h = by (eqb (length l) 8) refl
+    where
+      by : (b : Bool) → eqb (length l) 8 ≡ b → Closes (plain l)
+      by true t = (end, [], l, e .no-digit, ends end (behind (plain l)) end l (follow-end end e (plain l) ∙ rw t))
+      by false t =
+          let few : length l < 8 = let n = eqb-false (length l) 8 t in omega arith in
+          let r = colon-completes l in
+          (58, r .0, r .1, colon-no-digit, goes end (behind (plain l)) (colon (plain l)) 58 (r .0) (r .1) (follow-colon end (plain l) (lt-ltb (length l) 8 few)) (r .2))
+  behind-closes (gapped l r) h = (end, [], filled l r, e .no-digit, ends end (behind (gapped l r)) end (filled l r) (follow-end end e (gapped l r)))
+
+  digits-completes : (s : Seen) (n v : ℕ) → room s ≡ true → Completes (digits s n v)
+  digits-completes s n v h =
+      let r = behind-closes (push s v) (fits-push s v h) in
+      (r .0 ∷ r .1, r .2, alike end (digits s n v) (behind (push s v)) (r .0) (r .1) (r .2) (digits-follow end s n v (r .0) (r .3)) (r .4))
+
+  begins-completes : (q : State) (s : Seen) → step end q 48 ≡ begin s 48 → room s ≡ true → Completes q
+  begins-completes q s t h =
+      let r = digits-completes s 1 (hexOf 48) h in
+      (48 ∷ r .0, r .1, goes end q (digits s 1 (hexOf 48)) 48 (r .0) (r .1) (t ∙ begin-digit s 48 (let z = hex-zero in omega arith)) (r .2))
+
+  pub completes : (q : State) → Good q → Completes q
+  completes start g =
+      let r = colon-completes [] in
+      (58 ∷ r .0, r .1, goes end start (colon (plain [])) 58 (r .0) (r .1) refl (r .2))
+  completes (group s) g = begins-completes (group s) s refl (g .1 .1)
+  completes (digits s n v) g = digits-completes s n v (g .1 .1)
+  completes (behind s) g = let r = behind-closes s (g .1 .1) in (r .0 ∷ r .1, r .2, r .4)
+  completes (colon (plain l)) g = colon-completes l
+  completes (colon (gapped l r)) g = begins-completes (colon (gapped l r)) (gapped l r) refl (g .1 .1)
+  completes (gap l) g = gap-completes l

@@ -1,0 +1,9 @@
+pub mod Address
+pub mod Bytes
+pub mod Machine
+pub mod Read
+pub mod Steps
+pub mod Complete
+pub mod Walk
+pub mod Bounds
+pub mod Parser

@@ -1,0 +1,52 @@
+-- For proofs. Which bytes decimal and IPv4 text has, and how many.
+use mathlib.Core.Path.{_≡_, subst}
+use mathlib.Core.List.{List, [], _∷_, _++_}
+use Prim.Native.Nat.{ℕ, _+_, _*_, _-_, _^_, _≤_, _<_}
+use native.Mathlib.Nat.{pow-suc, pow-le-pow-right, mul-le-mul-right, lt-of-not-le}
+use native.Mathlib.Omega.{arith}
+use lib.ListN.{length, length-append}
+use Rattle.text.specs.Decimal.{Digit, Digits, Plain, valueOn, Decimal}
+use Rattle.text.specs.Ip4.{Address}
+
+digits-apart : (f : List ℕ) → Digits f → (c : ℕ) → (Digit c → ⊥) → (x y : List ℕ) → f ≡ x ++ c ∷ y → ⊥
+digits-apart [] digits c apart [] y e = let z : _≡_ {A = ℕ} 0 1 = cc in omega arith
+digits-apart [] digits c apart (b ∷ x) y e = let z : _≡_ {A = ℕ} 0 1 = cc in omega arith
+digits-apart (d ∷ f) digits c apart [] y e = apart (subst Digit (cc) (digits .0))
+digits-apart (d ∷ f) digits c apart (b ∷ x) y e = digits-apart f (digits .1) c apart x y cc
+
+-- decimal text has digits only: no space, no dot, no CR
+pub decimal-apart : (bound : ℕ) (f : List ℕ) (n : ℕ) → Decimal bound f n → (c : ℕ) → (Digit c → ⊥) → (x y : List ℕ) → f ≡ x ++ c ∷ y → ⊥
+decimal-apart bound f n l = digits-apart f (l .digits)
+
+value-least : (m : ℕ) (f : List ℕ) → m * 10 ^ length f ≤ valueOn m f
+value-least m [] = omega arith
+value-least m (c ∷ f) =
+    let h = value-least (m * 10 + (c - 48)) f in
+    rw (pow-suc 10 (length f)) (omega arith)
+
+digits-below : (c : ℕ) (f : List ℕ) → Digits (c ∷ f) → Plain (c ∷ f) → (d : ℕ) → 1 ≤ d → valueOn 0 (c ∷ f) < 10 ^ d → length (c ∷ f) ≤ d
+digits-below c [] digits plain d some below = some
+digits-below c (b ∷ f) digits plain d some below =
+    lt-of-not-le
+    λ (long : d ≤ length (b ∷ f)).
+    let least = value-least (0 * 10 + (c - 48)) (b ∷ f) in
+    let more = pow-le-pow-right {n = 10} (omega arith) long in
+    let low = digits .0 .0 in
+    let pos : 0 < 0 * 10 + (c - 48) = lt-of-not-le (λ (h : 0 * 10 + (c - 48) ≤ 0). plain (omega arith)) in
+    let times = mul-le-mul-right (10 ^ length (b ∷ f)) pos in
+    omega arith
+
+-- decimal text up to the bound has at most d digits where the bound is below 10 ^ d
+pub decimal-length : (bound : ℕ) (f : List ℕ) (n d : ℕ) → Decimal bound f n → 1 ≤ d → bound < 10 ^ d → length f ≤ d
+decimal-length bound [] n d l some below = absurd (l .plain)
+decimal-length bound (c ∷ f) n d l some below =
+    digits-below c f (l .digits) (l .plain) d some (let v = l .value in let h = l .fits in omega arith)
+
+-- 3 + 1 + 3 + 1 + 3 + 1 + 3 = 15
+pub address-length : (f octets : List ℕ) → Address f octets → length f ≤ 15
+address-length f octets l =
+    let a = decimal-length 255 (l .a) (l .first) 3 (l .whole-a) (omega arith) (omega arith) in
+    let b = decimal-length 255 (l .b) (l .second) 3 (l .whole-b) (omega arith) (omega arith) in
+    let c = decimal-length 255 (l .c) (l .third) 3 (l .whole-c) (omega arith) (omega arith) in
+    let d = decimal-length 255 (l .d) (l .fourth) 3 (l .whole-d) (omega arith) (omega arith) in
+    rw (l .split) (simp length-append (omega arith))

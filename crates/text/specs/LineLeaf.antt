@@ -1,0 +1,223 @@
+-- For proofs. The leaf of an UNKNOWN line's end: its machine, and that its verdicts are exact.
+use mathlib.Core.Path.{_≡_, refl, sym, ap, _∙_, subst}
+use mathlib.Core.List.{List, [], _∷_, _++_}
+use mathlib.Core.Logic.{_⊎_, inl, inr, ⊎-elim, _↔_}
+use Prim.Native.Nat.{ℕ, _+_, _-_, _≤_, _<_}
+use native.Mathlib.Omega.{arith}
+use lib.Dec.{eqb, leb, ltb}
+use lib.ListN.{length, length-append}
+use borrow.Author.Tests.{eqb-true, eqb-false, eq-eqb, ne-eqb, leb-true, leb-false, le-leb, lt-leb, ltb-true, ltb-false, lt-ltb}
+use Rattle.exact.specs.Claim.{AllBytes}
+use Rattle.exact.specs.Field.{Exact}
+use Rattle.exact.specs.Machine.{leaf, Move, go, done, dead, Sound, run, machine-exact}
+use Rattle.exact.specs.Pick.{pick, pick-by}
+use Rattle.exact.specs.Parser.{Parser, bytes-append}
+use Rattle.text.specs.Line.{NoEnd, FirstEnd}
+
+-- ── the machine ──
+-- so many bytes may still come; behind `cr`, the last was CR
+pub data Line : Type 0 where
+  clear : ℕ → Line
+  cr : ℕ → Line
+
+-- a byte that does not end the line: behind it CR LF must still fit, or LF where it is CR
+abbrev pub byte : ℕ → ℕ → Move Line ℕ
+byte left c =
+    pick (eqb c 13) (pick (leb 2 left) (go (cr (left - 1))) dead)
+    (pick (leb 3 left) (pick (ltb c 256) (go (clear (left - 1))) dead) dead)
+
+abbrev pub stepLine : Line → ℕ → Move Line ℕ
+stepLine (clear left) c = byte left c
+stepLine (cr left) c = pick (eqb c 10) (done 0) (byte left c)
+
+-- ── the first byte of a line ──
+-- the field's value is 0
+abbrev pub LineEnd : ℕ → List ℕ → ℕ → Type 0
+LineEnd limit f a = FirstEnd limit f × (a ≡ 0)
+
+pub no-end-more : (c : ℕ) (s : List ℕ) → NoEnd s → ((y : List ℕ) → c ≡ 13 → s ≡ 10 ∷ y → ⊥) → NoEnd (c ∷ s)
+no-end-more c s none apart x y e = by x e
+  where
+    by : (x : List ℕ) → c ∷ s ≡ x ++ 13 ∷ 10 ∷ y → ⊥
+    by [] e = apart y (cc) (cc)
+    by (d ∷ x) e = none x y cc
+
+pub no-end-tail : (c : ℕ) (s : List ℕ) → NoEnd (c ∷ s) → NoEnd s
+no-end-tail c s none x y e = none (c ∷ x) y (ap (λ (t : List ℕ). c ∷ t) e)
+
+long : (limit : ℕ) (f : List ℕ) → FirstEnd limit f → 2 ≤ length f
+long limit f l = rw (l .split) (simp length-append (omega arith))
+
+wider : (limit wide : ℕ) (f : List ℕ) → limit ≤ wide → FirstEnd limit f → FirstEnd wide f
+wider limit wide f h l =
+    record { body = l .body; split = l .split; none-before = l .none-before; bytes = l .bytes; size = let s = l .size in omega arith }
+
+-- the line is its end, or a byte and a line
+peel : (limit : ℕ) (c : ℕ) (f : List ℕ) → FirstEnd limit (c ∷ f) → ((c ≡ 13) × (f ≡ 10 ∷ [])) ⊎ ((c < 256) × FirstEnd (limit - 1) f)
+peel limit c f l = by (l .body) (l .split) (l .none-before) (l .bytes)
+  where
+    by : (b : List ℕ) → c ∷ f ≡ b ++ 13 ∷ 10 ∷ [] → NoEnd b → AllBytes b → ((c ≡ 13) × (f ≡ 10 ∷ [])) ⊎ ((c < 256) × FirstEnd (limit - 1) f)
+    by [] e none bytes = inl (cc, cc)
+    by (d ∷ b) e none bytes =
+        let q : d ≡ c = cc in
+        let h = bytes .0 in
+        let s = l .size in
+        inr (omega arith, record { body = b; split = cc; none-before = no-end-tail d b none; bytes = bytes .1; size = omega arith })
+
+push : (limit : ℕ) (c : ℕ) (f : List ℕ) → 1 ≤ limit → c < 256 → ((y : List ℕ) → c ≡ 13 → f ≡ 10 ∷ y → ⊥) → FirstEnd (limit - 1) f → FirstEnd limit (c ∷ f)
+push limit c f some small apart l =
+    record {
+      body = c ∷ l .body;
+      split = ap (λ (t : List ℕ). c ∷ t) (l .split);
+      none-before =
+          no-end-more c (l .body) (l .none-before)
+          (λ y e h. apart (y ++ 13 ∷ 10 ∷ []) e (l .split ∙ ap (λ (t : List ℕ). t ++ 13 ∷ 10 ∷ []) h));
+      bytes = (small, l .bytes);
+      size = let s = l .size in omega arith;
+    }
+
+ended : (limit : ℕ) → 2 ≤ limit → FirstEnd limit (13 ∷ 10 ∷ [])
+ended limit h = record { body = []; split = refl; none-before = λ x y e. by x y e; bytes = tt; size = h }
+  where
+    by : (x y : List ℕ) → [] ≡ x ++ 13 ∷ 10 ∷ y → ⊥
+    by [] y e = let z : _≡_ {A = ℕ} 0 1 = cc in omega arith
+    by (d ∷ x) y e = let z : _≡_ {A = ℕ} 0 1 = cc in omega arith
+
+-- nothing follows CR LF
+ended-only : (limit : ℕ) (f : List ℕ) → FirstEnd limit (13 ∷ 10 ∷ f) → f ≡ []
+ended-only limit f l = by (l .body) (l .split) (l .none-before)
+  where
+    by : (b : List ℕ) → 13 ∷ 10 ∷ f ≡ b ++ 13 ∷ 10 ∷ [] → NoEnd b → f ≡ []
+    by [] e none = cc
+    by (d ∷ []) e none = let z : _≡_ {A = ℕ} 10 13 = cc in absurd (omega arith)
+    by (d ∷ g ∷ b) e none = absurd (none [] b (let z : d ≡ 13 = cc in let w : g ≡ 10 = cc in cc))
+
+-- ── the step is sound ──
+abbrev Rest : Line → List ℕ → ℕ → Type 0
+Rest (clear left) f a = LineEnd left f a
+Rest (cr left) f a = LineEnd (left + 1) (13 ∷ f) a
+
+abbrev Ok : Line → Type 0
+Ok (clear left) = 2 ≤ left
+Ok (cr left) = 1 ≤ left
+
+-- a byte that does not end the line, from a state that holds no more than what may still come
+module _ (q : Line) (left c : ℕ) (same : (f : List ℕ) (a : ℕ) → Rest q (c ∷ f) a ↔ LineEnd left (c ∷ f) a) where
+  at-cr : c ≡ 13 → 2 ≤ left → Sound Rest Ok q c (go (cr (left - 1)))
+  at-cr e h = (
+    omega arith,
+    λ f a. (
+      λ l. let w = same f a .0 l in (rw e at (wider left (left - 1 + 1) (c ∷ f) (omega arith) (w .0)), w .1),
+      λ l. same f a .1 (wider (left - 1 + 1) left (c ∷ f) (omega arith) (rw e (l .0)), l .1),
+    ),
+  )
+
+  inside : (c ≡ 13 → ⊥) → (f : List ℕ) (a : ℕ) → Rest q (c ∷ f) a → (c < 256) × FirstEnd (left - 1) f
+  inside other f a l = ⊎-elim (λ w. absurd (other (w .0))) (λ w. w) (peel left c f (same f a .0 l .0))
+
+  at-other : (c ≡ 13 → ⊥) → c < 256 → 3 ≤ left → Sound Rest Ok q c (go (clear (left - 1)))
+  at-other other small h = (
+    omega arith,
+    λ f a. (
+      λ l. (inside other f a l .1, same f a .0 l .1),
+      λ l. same f a .1 (push left c f (omega arith) small (λ y e. absurd (other e)) (l .0), l .1),
+    ),
+  )
+
+  sound-byte : Sound Rest Ok q c (byte left c)
+  sound-byte =
+      let P = Sound Rest Ok q c in
+      pick-by P (eqb c 13)
+      (λ t.
+      let e = eqb-true c 13 t in
+      pick-by P (leb 2 left) (λ fits. at-cr e (leb-true 2 left fits))
+      (λ over f a l.
+      let g = leb-false 2 left over in
+      let h = long left (c ∷ f) (same f a .0 l .0) in
+      let s = same f a .0 l .0 .size in
+      omega arith))
+      (λ t.
+      let other = eqb-false c 13 t in
+      pick-by P (leb 3 left)
+      (λ fits.
+      pick-by P (ltb c 256) (λ small. at-other other (ltb-true c 256 small) (leb-true 3 left fits))
+      (λ big f a l. let g = ltb-false c 256 big in let h = inside other f a l .0 in omega arith))
+      (λ over f a l.
+      let g = leb-false 3 left over in
+      let h = long (left - 1) f (inside other f a l .1) in
+      let s = inside other f a l .1 .size in
+      omega arith))
+
+-- CR and a byte that is not LF
+behind-cr : (left c : ℕ) → (c ≡ 10 → ⊥) → (f : List ℕ) (a : ℕ) → Rest (cr left) (c ∷ f) a ↔ LineEnd left (c ∷ f) a
+behind-cr left c other f a = (
+  λ l. (
+    ⊎-elim (λ w. let e = w .1 in absurd (other cc)) (λ w. wider (left + 1 - 1) left (c ∷ f) (omega arith) (w .1))
+        (peel (left + 1) 13 (c ∷ f) (l .0)),
+    l .1,
+  ),
+  λ l. (
+    push (left + 1) 13 (c ∷ f) (omega arith) (omega arith) (λ y e h. other cc) (wider left (left + 1 - 1) (c ∷ f) (omega arith) (l .0)),
+    l .1,
+  ),
+)
+
+sound-line : (q : Line) (c : ℕ) → Ok q → Sound Rest Ok q c (stepLine q c)
+sound-line (clear left) c ok = sound-byte (clear left) left c (λ f a. (λ l. l, λ l. l))
+sound-line (cr left) c ok =
+    pick-by (Sound Rest Ok (cr left) c) (eqb c 10)
+    (λ t.
+    let e = eqb-true c 10 t in (
+      rw e (ended (left + 1) (omega arith), refl),
+      λ f a l. (ended-only (left + 1) f (rw e at (l .0)), l .1),
+    ))
+    (λ t. sound-byte (cr left) left c (behind-cr left c (eqb-false c 10 t)))
+
+solid-line : (q : Line) → Ok q → (a : ℕ) → Rest q [] a → ⊥
+solid-line (clear left) ok a l = let h = long left [] (l .0) in omega arith
+solid-line (cr left) ok a l = let h = long (left + 1) (13 ∷ []) (l .0) in omega arith
+
+opens-line : (q : Line) → Ok q → (f : List ℕ) × (a : ℕ) × Rest q f a
+opens-line (clear left) ok = (13 ∷ 10 ∷ [], 0, (ended left ok, refl))
+opens-line (cr left) ok = (10 ∷ [], 0, (ended (left + 1) (omega arith), refl))
+
+-- ── the parser ──
+pub line-exact : (k limit : ℕ) → 2 ≤ limit → (s : List ℕ) → Exact (leaf k (LineEnd limit)) (run k stepLine s (clear limit)) s
+line-exact k limit h s = machine-exact k Rest Ok stepLine opens-line solid-line sound-line s (clear limit) h
+
+pub line-opens : (limit : ℕ) → 2 ≤ limit → LineEnd limit (13 ∷ 10 ∷ []) 0
+line-opens limit h = (ended limit h, refl)
+
+pub line-bytes : (limit : ℕ) (f : List ℕ) (a : ℕ) → LineEnd limit f a → AllBytes f
+line-bytes limit f a l =
+    subst AllBytes (sym (l .0 .split)) (bytes-append (l .0 .body) (13 ∷ 10 ∷ []) (l .0 .bytes) (omega arith, (omega arith, tt)))
+
+abbrev pub lineEnd : (k limit : ℕ) → 2 ≤ limit → Parser ℕ
+lineEnd k limit h =
+    record {
+      field = leaf k (LineEnd limit);
+      verdict = λ s. run k stepLine s (clear limit);
+      exact = line-exact k limit h;
+      opens = record { tail = 13 ∷ 10 ∷ []; value = 0; whole = line-opens limit h };
+      bytes = line-bytes limit;
+    }
+
+-- ── the steps, by the tests that the code makes ──
+module _ (left c : ℕ) where
+  pub byte-cr : c ≡ 13 → 2 ≤ left → byte left c ≡ go (cr (left - 1))
+  byte-cr e h = simp (eq-eqb c 13 e, le-leb 2 left h)
+
+  pub byte-cr-long : c ≡ 13 → left < 2 → byte left c ≡ dead
+  byte-cr-long e h = simp (eq-eqb c 13 e, lt-leb 2 left h)
+
+  pub byte-other : (c ≡ 13 → ⊥) → c < 256 → 3 ≤ left → byte left c ≡ go (clear (left - 1))
+  byte-other e s h = simp (ne-eqb c 13 e, le-leb 3 left h, lt-ltb c 256 s)
+
+  pub byte-long : (c ≡ 13 → ⊥) → left < 3 → byte left c ≡ dead
+  byte-long e h = simp (ne-eqb c 13 e, lt-leb 3 left h)
+
+  pub cr-lf : c ≡ 10 → stepLine (cr left) c ≡ done 0
+  cr-lf e = simp (eq-eqb c 10 e)
+
+  pub cr-other : (c ≡ 10 → ⊥) → stepLine (cr left) c ≡ byte left c
+  cr-other e = simp (ne-eqb c 10 e)

@@ -1,0 +1,46 @@
+-- Laws of TLV areas: an area has one TLV list, joined lists are written one behind the other, and an area is of bytes.
+use mathlib.Core.Path.{_≡_, refl, sym, ap, _∙_, subst}
+use mathlib.Core.List.{List, [], _∷_, _++_, append-assoc}
+use Prim.Native.Nat.{ℕ, _/_, _%_}
+use native.Mathlib.Omega.{arith}
+use lib.ListN.{length, take, drop}
+use lib.Seq.{take-at, drop-at}
+use Rattle.exact.specs.Claim.{AllBytes}
+use Rattle.exact.specs.Parser.{bytes-append}
+use Rattle.tlv.specs.Tlv.{Tlv, written, Proper, Area, WellFormed}
+
+-- lists that begin with parts of one length have the same parts
+same-parts : (a b c d : List ℕ) → length a ≡ length c → a ++ b ≡ c ++ d → (a ≡ c) × (b ≡ d)
+same-parts a b c d n e = (
+  sym (take-at a b (length c) n) ∙ ap (take (length c)) e ∙ take-at c d (length c) refl,
+  sym (drop-at a b (length c) n) ∙ ap (drop (length c)) e ∙ drop-at c d (length c) refl,
+)
+
+written-one : (a b : List Tlv) → written a ≡ written b → a ≡ b
+written-one [] [] e = refl
+written-one [] (u ∷ b) e = let z : _≡_ {A = ℕ} 0 1 = cc in absurd (omega arith)
+written-one (t ∷ a) [] e = let z : _≡_ {A = ℕ} 0 1 = cc in absurd (omega arith)
+written-one (t ∷ a) (u ∷ b) e =
+    let type : t .type ≡ u .type = cc in
+    let high : length (t .value) / 256 ≡ length (u .value) / 256 = cc in
+    let low : length (t .value) % 256 ≡ length (u .value) % 256 = cc in
+    let rest : t .value ++ written a ≡ u .value ++ written b = cc in
+    let parts = same-parts (t .value) (written a) (u .value) (written b) (omega arith) rest in
+    let tail : a ≡ b = written-one a b (parts .1) in
+    λ i. record { type = type i; value = parts .0 i } ∷ tail i
+
+-- the TLV list is a function of the area
+pub area-one : (f : List ℕ) (a b : List Tlv) → Area f a → Area f b → a ≡ b
+area-one f a b x y = written-one a b (sym (x .0) ∙ y .0)
+
+-- joining is concatenation
+pub written-append : (a b : List Tlv) → written (a ++ b) ≡ written a ++ written b
+written-append [] b = refl
+written-append (t ∷ a) b = rw (written-append a b) (simp append-assoc)
+
+written-bytes : (a : List Tlv) → Proper a → AllBytes (written a)
+written-bytes [] p = tt
+written-bytes (t ∷ a) p = (p .0, (omega arith, (omega arith, bytes-append (t .value) (written a) (p .1) (written-bytes a (p .3)))))
+
+pub area-bytes : (f : List ℕ) → WellFormed f → AllBytes f
+area-bytes f w = subst AllBytes (sym (w .1 .0)) (written-bytes (w .0) (w .1 .1))

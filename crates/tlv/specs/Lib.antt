@@ -1,0 +1,5 @@
+pub mod Tlv
+pub mod Laws
+pub mod Room
+pub mod Rules
+pub mod Region

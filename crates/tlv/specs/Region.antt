@@ -1,0 +1,194 @@
+-- For proofs. The leaf of n bytes that TLVs fill: a machine whose states say which byte is due, and what is left of the n bytes.
+use mathlib.Core.Path.{_≡_, refl}
+use mathlib.Core.Bool.{Bool, true, false}
+use mathlib.Core.List.{List, [], _∷_}
+use mathlib.Core.Logic.{inl, inr, ⊎-elim, _↔_}
+use Prim.Native.Nat.{ℕ, zero, suc, _+_, _*_, _-_, _≤_, _<_}
+use native.Mathlib.Omega.{arith}
+use borrow.Author.Tests.{ltb-true, ltb-false, leb-true, leb-false, eqb-true, eqb-false, le-leb}
+use lib.Dec.{ltb, leb, eqb}
+use lib.ListN.{length}
+use Rattle.exact.specs.Claim.{Verdict, accepted}
+use Rattle.exact.specs.Field.{Opens, Exact}
+use Rattle.exact.specs.Machine.{leaf, Move, go, done, dead, Sound, run, machine-exact}
+use Rattle.exact.specs.Parser.{Parser}
+use Rattle.exact.specs.Pick.{pick, pick-by}
+use Rattle.tlv.specs.Tlv.{Filled}
+use Rattle.tlv.specs.Laws.{area-bytes}
+use Rattle.tlv.specs.Room.{Fillable, Good, Behind, head-open, head-shut, retype, high-byte, good-leaves, behind-fill}
+use Rattle.tlv.specs.Rules.{fill-rule, low-rule, high-rule}
+
+-- The byte that is due. typeByte n: n bytes are left with it. highByte room, lowByte h room: room bytes are left behind the two length bytes.
+-- valueByte v n: v value bytes follow it, and then n bytes.
+pub data Due : Type 0 where
+  typeByte : ℕ → Due
+  highByte : ℕ → Due
+  lowByte : ℕ → ℕ → Due
+  valueByte : ℕ → ℕ → Due
+
+-- before v value bytes and then n bytes
+abbrev pub enter : ℕ → ℕ → Move Due ℕ
+enter zero zero = done 0
+enter zero (suc n) = go (typeByte (suc n))
+enter (suc v) n = go (valueByte v n)
+
+abbrev pub good : ℕ → ℕ → Bool
+good len room = pick (eqb len room) true (leb (len + 3) room)
+
+abbrev pub stepByte : Due → ℕ → Move Due ℕ
+stepByte (typeByte n) c = pick (leb 3 n) (go (highByte (n - 3))) dead
+stepByte (highByte room) c = pick (leb (256 * c) room) (go (lowByte c room)) dead
+stepByte (lowByte h room) c = pick (good (256 * h + c) room) (enter (256 * h + c) (room - (256 * h + c))) dead
+stepByte (valueByte v n) c = enter v n
+
+abbrev pub step : Due → ℕ → Move Due ℕ
+step q c = pick (ltb c 256) (stepByte q c) dead
+
+-- what may follow in a state
+abbrev Follows : Due → List ℕ → Type 0
+Follows (typeByte n) f = Filled n f
+Follows (highByte room) f = Filled (3 + room) (0 ∷ f)
+Follows (lowByte h room) f = Filled (3 + room) (0 ∷ h ∷ f)
+Follows (valueByte v n) f = Behind (suc v) n f
+
+abbrev Lang : Due → List ℕ → ℕ → Type 0
+Lang q f a = Follows q f × (a ≡ 0)
+
+abbrev Ok : Due → Type 0
+Ok (typeByte n) = 3 ≤ n
+Ok (highByte room) = Unit {0}
+Ok (lowByte h room) = (h < 256) × (256 * h ≤ room)
+Ok (valueByte v n) = Fillable n
+
+solid : (q : Due) → Ok q → (a : ℕ) → Lang q [] a → ⊥
+solid (typeByte n) ok a l = let e = l .0 .0 in omega arith
+solid (highByte room) ok a l = let e = l .0 .0 in omega arith
+solid (lowByte h room) ok a l = let e = l .0 .0 in omega arith
+solid (valueByte v n) ok a l = l .0
+
+opens : (q : Due) → Ok q → (f : List ℕ) × (a : ℕ) × Lang q f a
+opens (typeByte n) ok = let c = fill-rule n .1 (inr ok) in (c .0, 0, (c .1, refl))
+opens (highByte room) ok =
+    let c = high-rule 0 0 room (omega arith) (omega arith) .1 (omega arith) in
+    (0 ∷ c .0, 0, (c .1, refl))
+opens (lowByte h room) ok =
+    let c = high-rule 0 h room (omega arith) (ok .0) .1 (ok .1) in
+    (c .0, 0, (c .1, refl))
+opens (valueByte v n) ok = let c = behind-fill (suc v) n ok in (c .0, 0, (c .1, refl))
+
+-- ── the tests ──
+good-by : (len room : ℕ) (b : Bool) → eqb len room ≡ b → (pick b true (leb (len + 3) room) ≡ true) ↔ Good len room
+good-by len room true e = (λ t. inl (eqb-true len room e), λ g. refl)
+good-by len room false e = (
+  λ t. inr (leb-true _ _ t),
+  ⊎-elim (λ g. absurd (eqb-false len room e g)) (λ g. le-leb _ _ g),
+)
+
+pub good-true : (len room : ℕ) → (good len room ≡ true) ↔ Good len room
+good-true len room = good-by len room (eqb len room) refl
+
+good-false : (len room : ℕ) → good len room ≡ false → Good len room → ⊥
+good-false len room e g =
+    let t = good-true len room .1 g in
+    let z : _≡_ {A = ℕ} 0 1 = cc in omega arith
+
+-- ── the steps are sound ──
+no-bytes : (f : List ℕ) → length f ≡ 0 → f ≡ []
+no-bytes [] e = refl
+no-bytes (x ∷ f) e = absurd (omega arith)
+
+some-bytes : (n : ℕ) → Fillable (suc n) → 3 ≤ suc n
+some-bytes n = ⊎-elim (λ e. absurd (omega arith)) (λ h. h)
+
+module _ (q : Due) (c : ℕ) where
+  enter-sound : (v n : ℕ) → Fillable n → ((f : List ℕ) → Follows q (c ∷ f) ↔ Behind v n f) → Sound Lang Ok q c (enter v n)
+  enter-sound zero zero ok same =
+      ((same [] .1 (refl, ([], (refl, tt))), refl), λ f a l. (no-bytes f (same f .0 (l .0) .0), l .1))
+  enter-sound zero (suc n) ok same =
+      (some-bytes n ok, λ f a. (λ l. (same f .0 (l .0), l .1), λ l. (same f .1 (l .0), l .1)))
+  enter-sound (suc v) n ok same = (ok, λ f a. (λ l. (same f .0 (l .0), l .1), λ l. (same f .1 (l .0), l .1)))
+
+no-byte : (q : Due) (c : ℕ) → 256 ≤ c → (f : List ℕ) (a : ℕ) → Lang q (c ∷ f) a → ⊥
+no-byte (typeByte n) c b f a l = let h = retype n c 0 f (omega arith) (l .0) .0 in omega arith
+no-byte (highByte room) c b f a l = let h = high-byte 0 c room f (l .0) .0 in omega arith
+no-byte (lowByte h room) c b f a l = let h = head-open 0 h c room f (l .0) .low in omega arith
+no-byte (valueByte v n) c b f a l = let h = l .0 .0 in omega arith
+
+type-sound : (n c : ℕ) → c < 256 → 3 ≤ n → Sound Lang Ok (typeByte n) c (go (highByte (n - 3)))
+type-sound n c b ok =
+    let e : 3 + (n - 3) ≡ n = omega arith in
+    (tt, λ f a. (λ l. (rw e (retype n c 0 f (omega arith) (l .0) .1), l .1), λ l. (retype n 0 c f b (rw e at (l .0)) .1, l .1)))
+
+low-sound : (h room c : ℕ) → c < 256 → h < 256 → Good (256 * h + c) room
+    → Sound Lang Ok (lowByte h room) c (enter (256 * h + c) (room - (256 * h + c)))
+low-sound h room c b bh g =
+    let leaves = good-leaves (256 * h + c) room g in
+    enter-sound (lowByte h room) c (256 * h + c) (room - (256 * h + c)) (leaves .1)
+    (λ f. (
+      λ w. head-open 0 h c room f w .behind,
+      λ w. head-shut 0 h c room f (record { type = omega arith; high = bh; low = b; within = leaves .0; behind = w }),
+    ))
+
+byte-sound : (q : Due) (c : ℕ) → c < 256 → Ok q → Sound Lang Ok q c (stepByte q c)
+byte-sound (typeByte n) c b ok =
+    pick-by (Sound Lang Ok (typeByte n) c) (leb 3 n) (λ t. type-sound n c b ok)
+    (λ t. absurd (let h : n < 3 = leb-false 3 n t in omega arith))
+byte-sound (highByte room) c b ok =
+    pick-by (Sound Lang Ok (highByte room) c) (leb (256 * c) room) (λ t. ((b, leb-true _ _ t), λ f a. (λ l. l, λ l. l)))
+    (λ t f a l. let h : room < 256 * c = leb-false _ _ t in let g = high-byte 0 c room f (l .0) .1 in omega arith)
+byte-sound (lowByte h room) c b ok =
+    pick-by (Sound Lang Ok (lowByte h room) c) (good (256 * h + c) room) (λ t. low-sound h room c b (ok .0) (good-true _ _ .0 t))
+    (λ t f a l. good-false (256 * h + c) room t (low-rule 0 h room (omega arith) (ok .0) c b .0 (f, l .0)))
+byte-sound (valueByte v n) c b ok = enter-sound (valueByte v n) c v n ok (λ f. (λ w. w .1, λ w. (b, w)))
+
+step-sound : (q : Due) (c : ℕ) → Ok q → Sound Lang Ok q c (step q c)
+step-sound q c ok =
+    pick-by (Sound Lang Ok q c) (ltb c 256) (λ t. byte-sound q c (ltb-true c 256 t) ok) (λ t. no-byte q c (ltb-false c 256 t))
+
+-- ── the parser ──
+-- TLVs fill n bytes; the value says nothing
+abbrev pub Region : ℕ → List ℕ → ℕ → Type 0
+Region n f a = Filled n f × (a ≡ 0)
+
+pub region-opens : (k n : ℕ) → Fillable n → Opens (leaf k (Region n)) []
+region-opens k n ok = let c = fill-rule n .1 ok in record { tail = c .0; value = 0; whole = (c .1, refl) }
+
+pub region-exact : (k n : ℕ) → 3 ≤ n → (s : List ℕ) → Exact (leaf k (Region n)) (run k step s (typeByte n)) s
+region-exact k n ok s = machine-exact k Lang Ok step opens solid step-sound s (typeByte n) ok
+
+abbrev pub region : (k n : ℕ) → 3 ≤ n → Parser ℕ
+region k n ok =
+    record {
+      field = leaf k (Region n);
+      verdict = λ s. run k step s (typeByte n);
+      exact = region-exact k n ok;
+      opens = region-opens k n (inr ok);
+      bytes = λ f a l. area-bytes f (l .0 .1);
+    }
+
+-- the same where n may be 0
+abbrev pub judge : ℕ → ℕ → List ℕ → Verdict ℕ
+judge k zero s = accepted 0 0
+judge k (suc n) s = run k step s (typeByte (suc n))
+
+pub judge-exact : (k n : ℕ) → Fillable n → (s : List ℕ) → Exact (leaf k (Region n)) (judge k n s) s
+judge-exact k zero ok s =
+    record {
+      front = [];
+      rest = s;
+      split = refl;
+      size = refl;
+      whole = ((refl, ([], (refl, tt))), refl);
+      only = λ x y g b e l. (no-bytes g (l .0 .0), l .1);
+    }
+judge-exact k (suc n) ok s = region-exact k (suc n) (some-bytes n ok) s
+
+abbrev pub regionOf : (k n : ℕ) → Fillable n → Parser ℕ
+regionOf k n ok =
+    record {
+      field = leaf k (Region n);
+      verdict = judge k n;
+      exact = judge-exact k n ok;
+      opens = region-opens k n ok;
+      bytes = λ f a l. area-bytes f (l .0 .1);
+    }
