@@ -6,3 +6,4 @@ pub mod LineFields
 pub mod BlockFields
 pub mod Places
 pub mod Exactness
+pub mod Table
