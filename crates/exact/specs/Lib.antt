@@ -7,6 +7,7 @@ pub mod Sequence
 pub mod Choice
 pub mod Machine
 pub mod Parser
+pub mod Stage
 pub mod Unique
 pub mod Theorem
 pub mod Literal

@@ -182,7 +182,7 @@ module _ {Q A : Type 0} (k : ℕ) (Ok : Q → Type 0) (step : Q → ℕ → Move
 abbrev pub from : {Q A : Type 0} → ℕ → (Q → ℕ → Move Q A) → List ℕ → ℕ → Q → Verdict A
 from k step s i q = shift i (run k step (drop i s) q)
 
-shift-shift : {A : Type 0} (i j : ℕ) (v : Verdict A) → shift i (shift j v) ≡ shift (i + j) v
+pub shift-shift : {A : Type 0} (i j : ℕ) (v : Verdict A) → shift i (shift j v) ≡ shift (i + j) v
 shift-shift i j (accepted a n) = ap (λ (m : ℕ). accepted a m) (omega arith)
 shift-shift i j more = refl
 shift-shift i j (refused k p) = ap (λ (m : ℕ). refused k m) (omega arith)

@@ -198,7 +198,7 @@ spelled P =
       bytes = λ f t l. P .bytes f (l .value) (l .whole);
     }
 
--- ── how a sequence's verdict follows from its parts', as code finds it ──
+-- ── what code needs of a verdict ──
 -- how many bytes a verdict speaks of
 abbrev pub reach : {A : Type 0} → Verdict A → ℕ
 reach (accepted a n) = n
@@ -213,22 +213,6 @@ reach-exact F (refused k p) s x = let e = x .size in rw (x .split) (simp length-
 module _ {A : Type 0} (P : Parser A) (s : List ℕ) where
   pub reach-le : (v : Verdict A) → v ≡ P .verdict s → reach v ≤ length s
   reach-le v e = rw e (reach-exact (P .field) (P .verdict s) s (P .exact s))
-
-  module _ {B : Type 0} (Q : A → Parser B) where
-    pub then-more : more ≡ P .verdict s → more ≡ (P then Q) .verdict s
-    then-more e = ap (λ (v : Verdict A). after v (λ a r. Q a .verdict r) s) e
-
-    pub then-refused : (k p : ℕ) → refused k p ≡ P .verdict s → refused k p ≡ (P then Q) .verdict s
-    then-refused k p e = ap (λ (v : Verdict A). after v (λ a r. Q a .verdict r) s) e
-
-    pub then-accepted : (a : A) (n : ℕ) (w : Verdict B) → accepted a n ≡ P .verdict s → w ≡ Q a .verdict (drop n s)
-        → shift n w ≡ (P then Q) .verdict s
-    then-accepted a n w e h = rw h (ap (λ (v : Verdict A). after v (λ a r. Q a .verdict r) s) e)
-
-  pub then-just : {B : Type 0} (f : A → B) (a : A) (n : ℕ) → accepted a n ≡ P .verdict s → accepted (f a) n ≡ (P then λ x. just (f x)) .verdict s
-  then-just f a n e =
-      ap (λ (m : ℕ). accepted (f a) m) (omega arith)
-      ∙ then-accepted (λ x. just (f x)) a n (accepted (f a) 0) e refl
 
 -- what a slice `&s[n..]` holds
 pub tail-all : (n : ℕ) (s : List ℕ) → take (length s - n) (drop n s) ≡ drop n s

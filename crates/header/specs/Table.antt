@@ -4,6 +4,7 @@ use mathlib.Core.List.{List, [], _∷_, _++_, map}
 use Prim.Native.Nat.{ℕ}
 use Rattle.exact.specs.Ascii.{ascii}
 use Rattle.exact.specs.Claim.{Verdict, accepted, more, refused}
+use Rattle.text.specs.Ip4Leaf.{ip4Verdict}
 use Rattle.record.specs.declared.Transport.the-variants.{Stream}
 use Rattle.record.specs.declared.Kind.the-variants.{Local, Unspecified, Ip4, Ip6}
 use Rattle.record.specs.Records.{recordOf, bare}
@@ -74,6 +75,7 @@ right [] c = tt
 right (r ∷ rows) c = (subst (λ (v : Verdict Header). Judges v (r .bytes)) (c .0) (judges (r .bytes)), right rows (c .1))
 
 pub table-right : Right table
+unfolding ip4Verdict
 table-right =
     right table
     (refl, (refl, (refl, (refl, (refl, (refl, (refl, (refl, (refl, (refl, (refl, (refl, (refl, (refl, tt))))))))))))))

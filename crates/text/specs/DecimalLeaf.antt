@@ -6,14 +6,16 @@ use Prim.Native.Nat.{ℕ, _+_, _*_, _-_, _≤_, _<_}
 use native.Mathlib.Nat.{le-refl}
 use native.Mathlib.Omega.{arith}
 use lib.Dec.{eqb, leb}
+use lib.ListN.{length}
 use borrow.Author.Tests.{eqb-true, eqb-false, eq-eqb, ne-eqb, leb-true, leb-false, le-leb, lt-leb}
-use Rattle.exact.specs.Claim.{AllBytes}
+use Rattle.exact.specs.Claim.{Verdict, AllBytes}
 use Rattle.exact.specs.Field.{Exact}
 use Rattle.exact.specs.Machine.{leaf, Move, go, done, dead, Sound, run, machine-exact}
 use Rattle.exact.specs.Pick.{pick, pick-by}
 use Rattle.exact.specs.Parser.{Parser}
 use Rattle.exact.specs.Ended.{Ended}
 use Rattle.text.specs.Decimal.{Digit, Digits, Plain, valueOn, Decimal}
+use Rattle.text.specs.Verdicts.{Within, Keeps, run-within}
 use Rattle.text.specs.Endings.{ended-solid, ended-first, ended-more, ended-last, ended-bytes, ended-map}
 
 -- ── the machine ──
@@ -30,6 +32,9 @@ digit bound n c =
 abbrev pub stepDecimal : ℕ → ℕ → At → ℕ → Move At ℕ
 stepDecimal bound end start c = digit bound 0 c
 stepDecimal bound end (behind n) c = pick (eqb c end) (done n) (pick (eqb n 0) dead (digit bound n c))
+
+abbrev pub decimalVerdict : (k bound end : ℕ) → List ℕ → Verdict ℕ
+decimalVerdict k bound end s = run k (stepDecimal bound end) s start
 
 -- ── what may follow ──
 -- the digits f behind those that make m
@@ -161,7 +166,7 @@ module _ (bound end : ℕ) where
     opens-decimal start ok = (48 ∷ end ∷ [], 0, record { text = 48 ∷ []; split = refl; whole = zero-text bound })
     opens-decimal (behind m) ok = (end ∷ [], m, ended-last (Tail bound m) end m (ends-tail m ok))
 
-    pub decimal-exact : (k : ℕ) (s : List ℕ) → Exact (leaf k (Ended (Decimal bound) end)) (run k (stepDecimal bound end) s start) s
+    pub decimal-exact : (k : ℕ) (s : List ℕ) → Exact (leaf k (Ended (Decimal bound) end)) (decimalVerdict k bound end s) s
     decimal-exact k s =
         machine-exact k Follows (Ok bound) (stepDecimal bound end) opens-decimal (λ q ok n l. ended-solid (Rest bound q) end n l)
         sound-decimal s start tt
@@ -178,11 +183,31 @@ abbrev pub decimal : (k bound end : ℕ) → (Digit end → ⊥) → end < 256 �
 decimal k bound end apart small =
     record {
       field = leaf k (Ended (Decimal bound) end);
-      verdict = λ s. run k (stepDecimal bound end) s start;
+      verdict = decimalVerdict k bound end;
       exact = decimal-exact bound end apart k;
       opens = record { tail = 48 ∷ end ∷ []; value = 0; whole = record { text = 48 ∷ []; split = refl; whole = zero-text bound } };
       bytes = ended-bytes (Decimal bound) end small (decimal-bytes bound);
     }
+
+-- ── whatever ends it, an accepted number is at most the bound ──
+module _ (bound end : ℕ) where
+  abbrev Keep : Move At ℕ → Type 0
+  Keep = Keeps (Ok bound) (λ (n : ℕ). n ≤ bound)
+
+  digit-keeps : (n c : ℕ) → Keep (digit bound n c)
+  digit-keeps n c =
+      pick-by Keep (leb 48 c)
+      (λ low.
+      pick-by Keep (leb c 57) (λ high. pick-by Keep (leb (n * 10 + (c - 48)) bound) (λ fits. leb-true _ _ fits) (λ over. tt)) (λ high. tt))
+      (λ low. tt)
+
+  step-keeps : (q : At) (c : ℕ) → Ok bound q → Keep (stepDecimal bound end q c)
+  step-keeps start c ok = digit-keeps 0 c
+  step-keeps (behind n) c ok =
+      pick-by Keep (eqb c end) (λ t. ok) (λ t. pick-by Keep (eqb n 0) (λ z. tt) (λ z. digit-keeps n c))
+
+  pub decimal-within : (k : ℕ) (s : List ℕ) → Within (λ (n : ℕ). n ≤ bound) (length s) (decimalVerdict k bound end s)
+  decimal-within k s = run-within (Ok bound) (λ (n : ℕ). n ≤ bound) k (stepDecimal bound end) step-keeps s start tt
 
 -- ── the steps, by the tests that the code makes ──
 module _ (bound n c : ℕ) where

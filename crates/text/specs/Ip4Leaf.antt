@@ -1,38 +1,53 @@
 -- For proofs. The leaf of IPv4 text that a byte ends: four decimals, one behind the other.
-use mathlib.Core.Path.{_≡_, refl}
+use mathlib.Core.Path.{_≡_, refl, sym, ap, _∙_}
 use mathlib.Core.List.{List, [], _∷_, _++_, append-assoc, append-nil}
 use mathlib.Core.Logic.{⊎-elim}
-use Prim.Native.Nat.{ℕ, zero, suc, _<_}
+use Prim.Native.Nat.{ℕ, zero, suc, _+_, _-_, _<_}
+use native.Mathlib.Numerals.{add-one}
 use native.Mathlib.Omega.{arith}
-use Rattle.exact.specs.Claim.{Verdict, accepted}
-use Rattle.exact.specs.Field.{Exact, Opens, after}
-use Rattle.exact.specs.Machine.{leaf, run}
+use lib.Dec.{eqb}
+use lib.ListN.{length, take, drop, set}
+use lib.Seq.{take-all, take-suc-set, drop-drop}
+use Rattle.exact.specs.Claim.{Verdict, accepted, more, refused}
+use Rattle.exact.specs.Field.{Exact, Opens, after, shift}
+use Rattle.exact.specs.Machine.{leaf}
+use Rattle.exact.specs.Pick.{pick, pick-by}
 use Rattle.exact.specs.Parser.{Parser, InBytes, just, _then_, recast}
 use Rattle.exact.specs.Ended.{Ended}
 use Rattle.text.specs.Decimal.{Digit}
 use Rattle.text.specs.Ip4.{Address}
-use Rattle.text.specs.DecimalLeaf.{stepDecimal, start, decimal}
+use Rattle.text.specs.Verdicts.{shift-zero, shift-shift}
+use Rattle.text.specs.DecimalLeaf.{decimalVerdict, decimal}
 
--- the verdict on the octets behind those given: m that a dot ends, and the last, that the byte end ends
+-- the byte that ends an octet which m others follow
+abbrev pub endOf : ℕ → ℕ → ℕ
+endOf end m = pick (eqb m 0) end 46
+
+-- the verdict on m octets behind those given
 abbrev pub octetsVerdict : (k end m : ℕ) → List ℕ → List ℕ → Verdict (List ℕ)
-octetsVerdict k end zero octets s =
-    after (run k (stepDecimal 255 end) s start) (λ n r. accepted (octets ++ n ∷ []) 0) s
+octetsVerdict k end zero octets s = accepted octets 0
 octetsVerdict k end (suc m) octets s =
-    after (run k (stepDecimal 255 46) s start) (λ n r. octetsVerdict k end m (octets ++ n ∷ []) r) s
+    after (decimalVerdict k 255 (endOf end m) s) (λ n r. octetsVerdict k end m (octets ++ n ∷ []) r) s
 
-dot-apart : Digit 46 → ⊥
-dot-apart d = let h = d .0 in omega arith
+unfoldable pub ip4Verdict : (k end : ℕ) → List ℕ → Verdict (List ℕ)
+ip4Verdict k end = octetsVerdict k end 4 []
 
 module _ (k end : ℕ) (apart : Digit end → ⊥) (small : end < 256) where
+  end-apart : (m : ℕ) → Digit (endOf end m) → ⊥
+  end-apart m = pick-by (λ (c : ℕ). Digit c → ⊥) (eqb m 0) (λ t. apart) (λ t d. let h = d .0 in omega arith)
+
+  end-small : (m : ℕ) → endOf end m < 256
+  end-small m = pick-by (λ (c : ℕ). c < 256) (eqb m 0) (λ t. small) (λ t. omega arith)
+
   abbrev octetsOn : ℕ → List ℕ → Parser (List ℕ)
-  octetsOn zero octets = decimal k 255 end apart small then λ n. just (octets ++ n ∷ [])
-  octetsOn (suc m) octets = decimal k 255 46 dot-apart (omega arith) then λ n. octetsOn m (octets ++ n ∷ [])
+  octetsOn zero octets = just octets
+  octetsOn (suc m) octets = decimal k 255 (endOf end m) (end-apart m) (end-small m) then λ n. octetsOn m (octets ++ n ∷ [])
 
   number : (m : ℕ) (octets : List ℕ) (u : List ℕ) (j : ℕ) → octetsOn m octets .field .at u j → j ≡ k
-  number zero octets u j = ⊎-elim (λ w. w .1) (λ w. absurd (w .part))
-  number (suc m) octets u j = ⊎-elim (λ w. w .1) (λ w. number m (octets ++ w .mid ∷ []) (w .back) j (w .part))
+  number zero octets u j w = absurd w
+  number (suc m) octets u j w = ⊎-elim (λ w. w .1) (λ w. number m (octets ++ w .mid ∷ []) (w .back) j (w .part)) w
 
-  address : (f octets : List ℕ) → octetsOn 3 [] .field .lang f octets → Ended Address end f octets
+  address : (f octets : List ℕ) → octetsOn 4 [] .field .lang f octets → Ended Address end f octets
   address f octets l =
       let m = l .second in
       let n = m .second in
@@ -58,7 +73,7 @@ module _ (k end : ℕ) (apart : Digit end → ⊥) (small : end < 256) where
         };
       }
 
-  fields : (f octets : List ℕ) → Ended Address end f octets → octetsOn 3 [] .field .lang f octets
+  fields : (f octets : List ℕ) → Ended Address end f octets → octetsOn 4 [] .field .lang f octets
   fields f octets l =
       let w = l .whole in
       record {
@@ -92,9 +107,10 @@ module _ (k end : ℕ) (apart : Digit end → ⊥) (small : end < 256) where
       }
 
   abbrev byFields : Parser (List ℕ)
-  byFields = recast (octetsOn 3 []) (leaf k (Ended Address end)) (λ f a. (address f a, fields f a)) (λ u j o x. number 3 [] u j x)
+  byFields = recast (octetsOn 4 []) (leaf k (Ended Address end)) (λ f a. (address f a, fields f a)) (λ u j o x. number 4 [] u j x)
 
-  pub ip4-exact : (s : List ℕ) → Exact (leaf k (Ended Address end)) (octetsVerdict k end 3 [] s) s
+  pub ip4-exact : (s : List ℕ) → Exact (leaf k (Ended Address end)) (ip4Verdict k end s) s
+  unfolding ip4Verdict
   ip4-exact s = byFields .exact s
 
   pub ip4-opens : Opens (leaf k (Ended Address end)) []
@@ -107,8 +123,46 @@ module _ (k end : ℕ) (apart : Digit end → ⊥) (small : end < 256) where
   ip4 =
       record {
         field = leaf k (Ended Address end);
-        verdict = octetsVerdict k end 3 [];
+        verdict = ip4Verdict k end;
         exact = ip4-exact;
         opens = ip4-opens;
         bytes = ip4-bytes;
       }
+
+-- ── the verdict from the octet i on, at the index at, as a loop finds it ──
+module _ (k end : ℕ) (s : List ℕ) where
+  abbrev pub octetsFrom : (i : ℕ) → (octets : List ℕ) → (at : ℕ) → Verdict (List ℕ)
+  octetsFrom i octets at = shift at (octetsVerdict k end (4 - i) (take i octets) (drop at s))
+
+  pub octets-start : (octets : List ℕ) → ip4Verdict k end s ≡ octetsFrom 0 octets 0
+  unfolding ip4Verdict
+  octets-start octets = sym (shift-zero (octetsVerdict k end 4 [] s))
+
+  pub octets-end : (i : ℕ) (octets : List ℕ) (at : ℕ) → i ≡ 4 → length octets ≡ 4 → accepted octets at ≡ octetsFrom i octets at
+  octets-end i octets at e size =
+      let all : take i octets ≡ octets = take-all i octets (omega arith) in
+      rw (all, e) (ap (λ (n : ℕ). accepted octets n) (omega arith))
+
+  module _ (i : ℕ) (octets : List ℕ) (at : ℕ) (h : i < 4) where
+    abbrev next : ℕ → List ℕ → Verdict (List ℕ)
+    next n r = octetsVerdict k end (3 - i) (take i octets ++ n ∷ []) r
+
+    by-octet : (v : Verdict ℕ) → v ≡ decimalVerdict k 255 (endOf end (3 - i)) (drop at s) → octetsFrom i octets at ≡ shift at (after v next (drop at s))
+    by-octet v e =
+        let one : 4 - i ≡ suc (3 - i) = omega arith in
+        ap (λ (m : ℕ). shift at (octetsVerdict k end m (take i octets) (drop at s))) one
+        ∙ ap (λ (w : Verdict ℕ). shift at (after w next (drop at s))) (sym e)
+
+    pub octet-more : more ≡ decimalVerdict k 255 (endOf end (3 - i)) (drop at s) → more ≡ octetsFrom i octets at
+    octet-more e = sym (by-octet more e)
+
+    pub octet-refused : (p : ℕ) → refused k p ≡ decimalVerdict k 255 (endOf end (3 - i)) (drop at s) → refused k (at + p) ≡ octetsFrom i octets at
+    octet-refused p e = sym (by-octet (refused k p) e)
+
+    pub octet-accepted : (n size : ℕ) → length octets ≡ 4 → accepted n size ≡ decimalVerdict k 255 (endOf end (3 - i)) (drop at s)
+        → octetsFrom i octets at ≡ octetsFrom (i + 1) (set octets i n) (at + size)
+    octet-accepted n size full e =
+        let left : 4 - (i + 1) ≡ 3 - i = omega arith in
+        by-octet (accepted n size) e
+        ∙ shift-shift at size (at + size) (next n (drop size (drop at s))) refl
+        ∙ rw (left, add-one i, take-suc-set octets i n (omega arith), drop-drop size at s)

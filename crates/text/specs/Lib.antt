@@ -1,9 +1,11 @@
 pub mod Decimal
 pub mod Ip4
 pub mod Line
+pub mod Verdicts
 pub mod Endings
 pub mod DecimalLeaf
 pub mod Ip4Leaf
 pub mod LineLeaf
 pub mod Laws
 pub mod LongLine
+pub mod Answers

@@ -1,5 +1,6 @@
 -- For proofs. The leaf of an UNKNOWN line's end: its machine, and that its verdicts are exact.
 use mathlib.Core.Path.{_≡_, refl, sym, ap, _∙_, subst}
+use mathlib.Core.Bool.{Bool, true, false}
 use mathlib.Core.List.{List, [], _∷_, _++_}
 use mathlib.Core.Logic.{_⊎_, inl, inr, ⊎-elim, _↔_}
 use Prim.Native.Nat.{ℕ, _+_, _-_, _≤_, _<_}
@@ -7,7 +8,7 @@ use native.Mathlib.Omega.{arith}
 use lib.Dec.{eqb, leb, ltb}
 use lib.ListN.{length, length-append}
 use borrow.Author.Tests.{eqb-true, eqb-false, eq-eqb, ne-eqb, leb-true, leb-false, le-leb, lt-leb, ltb-true, ltb-false, lt-ltb}
-use Rattle.exact.specs.Claim.{AllBytes}
+use Rattle.exact.specs.Claim.{Verdict, AllBytes}
 use Rattle.exact.specs.Field.{Exact}
 use Rattle.exact.specs.Machine.{leaf, Move, go, done, dead, Sound, run, machine-exact}
 use Rattle.exact.specs.Pick.{pick, pick-by}
@@ -15,20 +16,24 @@ use Rattle.exact.specs.Parser.{Parser, bytes-append}
 use Rattle.text.specs.Line.{NoEnd, FirstEnd}
 
 -- ── the machine ──
--- so many bytes may still come; behind `cr`, the last was CR
+-- whether the last byte was CR, and how many bytes may still come
 pub data Line : Type 0 where
-  clear : ℕ → Line
-  cr : ℕ → Line
+  line : Bool → ℕ → Line
 
--- a byte that does not end the line: behind it CR LF must still fit, or LF where it is CR
-abbrev pub byte : ℕ → ℕ → Move Line ℕ
-byte left c =
-    pick (eqb c 13) (pick (leb 2 left) (go (cr (left - 1))) dead)
-    (pick (leb 3 left) (pick (ltb c 256) (go (clear (left - 1))) dead) dead)
+-- the fewest bytes of a line that begins with c and not with its end: CR and LF behind c, or LF where c is CR
+abbrev pub least : Bool → ℕ
+least is-cr = pick is-cr 2 3
+
+-- a byte that does not end the line
+abbrev pub pass : Bool → ℕ → ℕ → Move Line ℕ
+pass is-cr left c = pick (leb (least is-cr) left) (pick (ltb c 256) (go (line is-cr (left - 1))) dead) dead
 
 abbrev pub stepLine : Line → ℕ → Move Line ℕ
-stepLine (clear left) c = byte left c
-stepLine (cr left) c = pick (eqb c 10) (done 0) (byte left c)
+stepLine (line true left) c = pick (eqb c 10) (done 0) (pass (eqb c 13) left c)
+stepLine (line false left) c = pass (eqb c 13) left c
+
+abbrev pub lineVerdict : (k limit : ℕ) → List ℕ → Verdict ℕ
+lineVerdict k limit s = run k stepLine s (line false limit)
 
 -- ── the first byte of a line ──
 -- the field's value is 0
@@ -94,16 +99,16 @@ ended-only limit f l = by (l .body) (l .split) (l .none-before)
 
 -- ── the step is sound ──
 abbrev Rest : Line → List ℕ → ℕ → Type 0
-Rest (clear left) f a = LineEnd left f a
-Rest (cr left) f a = LineEnd (left + 1) (13 ∷ f) a
+Rest (line false left) f a = LineEnd left f a
+Rest (line true left) f a = LineEnd (left + 1) (13 ∷ f) a
 
 abbrev Ok : Line → Type 0
-Ok (clear left) = 2 ≤ left
-Ok (cr left) = 1 ≤ left
+Ok (line false left) = 2 ≤ left
+Ok (line true left) = 1 ≤ left
 
--- a byte that does not end the line, from a state that holds no more than what may still come
+-- a byte that does not end the line
 module _ (q : Line) (left c : ℕ) (same : (f : List ℕ) (a : ℕ) → Rest q (c ∷ f) a ↔ LineEnd left (c ∷ f) a) where
-  at-cr : c ≡ 13 → 2 ≤ left → Sound Rest Ok q c (go (cr (left - 1)))
+  at-cr : c ≡ 13 → 2 ≤ left → Sound Rest Ok q c (go (line true (left - 1)))
   at-cr e h = (
     omega arith,
     λ f a. (
@@ -115,7 +120,7 @@ module _ (q : Line) (left c : ℕ) (same : (f : List ℕ) (a : ℕ) → Rest q (
   inside : (c ≡ 13 → ⊥) → (f : List ℕ) (a : ℕ) → Rest q (c ∷ f) a → (c < 256) × FirstEnd (left - 1) f
   inside other f a l = ⊎-elim (λ w. absurd (other (w .0))) (λ w. w) (peel left c f (same f a .0 l .0))
 
-  at-other : (c ≡ 13 → ⊥) → c < 256 → 3 ≤ left → Sound Rest Ok q c (go (clear (left - 1)))
+  at-other : (c ≡ 13 → ⊥) → c < 256 → 3 ≤ left → Sound Rest Ok q c (go (line false (left - 1)))
   at-other other small h = (
     omega arith,
     λ f a. (
@@ -124,19 +129,20 @@ module _ (q : Line) (left c : ℕ) (same : (f : List ℕ) (a : ℕ) → Rest q (
     ),
   )
 
-  sound-byte : Sound Rest Ok q c (byte left c)
-  sound-byte =
+  sound-pass : (b : Bool) → eqb c 13 ≡ b → Sound Rest Ok q c (pass b left c)
+  sound-pass true t =
       let P = Sound Rest Ok q c in
-      pick-by P (eqb c 13)
-      (λ t.
       let e = eqb-true c 13 t in
-      pick-by P (leb 2 left) (λ fits. at-cr e (leb-true 2 left fits))
+      pick-by P (leb 2 left)
+      (λ fits.
+      pick-by P (ltb c 256) (λ small. at-cr e (leb-true 2 left fits)) (λ big f a l. let g = ltb-false c 256 big in omega arith))
       (λ over f a l.
       let g = leb-false 2 left over in
       let h = long left (c ∷ f) (same f a .0 l .0) in
       let s = same f a .0 l .0 .size in
-      omega arith))
-      (λ t.
+      omega arith)
+  sound-pass false t =
+      let P = Sound Rest Ok q c in
       let other = eqb-false c 13 t in
       pick-by P (leb 3 left)
       (λ fits.
@@ -146,10 +152,10 @@ module _ (q : Line) (left c : ℕ) (same : (f : List ℕ) (a : ℕ) → Rest q (
       let g = leb-false 3 left over in
       let h = long (left - 1) f (inside other f a l .1) in
       let s = inside other f a l .1 .size in
-      omega arith))
+      omega arith)
 
 -- CR and a byte that is not LF
-behind-cr : (left c : ℕ) → (c ≡ 10 → ⊥) → (f : List ℕ) (a : ℕ) → Rest (cr left) (c ∷ f) a ↔ LineEnd left (c ∷ f) a
+behind-cr : (left c : ℕ) → (c ≡ 10 → ⊥) → (f : List ℕ) (a : ℕ) → Rest (line true left) (c ∷ f) a ↔ LineEnd left (c ∷ f) a
 behind-cr left c other f a = (
   λ l. (
     ⊎-elim (λ w. let e = w .1 in absurd (other cc)) (λ w. wider (left + 1 - 1) left (c ∷ f) (omega arith) (w .1))
@@ -163,27 +169,27 @@ behind-cr left c other f a = (
 )
 
 sound-line : (q : Line) (c : ℕ) → Ok q → Sound Rest Ok q c (stepLine q c)
-sound-line (clear left) c ok = sound-byte (clear left) left c (λ f a. (λ l. l, λ l. l))
-sound-line (cr left) c ok =
-    pick-by (Sound Rest Ok (cr left) c) (eqb c 10)
+sound-line (line false left) c ok = sound-pass (line false left) left c (λ f a. (λ l. l, λ l. l)) (eqb c 13) refl
+sound-line (line true left) c ok =
+    pick-by (Sound Rest Ok (line true left) c) (eqb c 10)
     (λ t.
     let e = eqb-true c 10 t in (
       rw e (ended (left + 1) (omega arith), refl),
       λ f a l. (ended-only (left + 1) f (rw e at (l .0)), l .1),
     ))
-    (λ t. sound-byte (cr left) left c (behind-cr left c (eqb-false c 10 t)))
+    (λ t. sound-pass (line true left) left c (behind-cr left c (eqb-false c 10 t)) (eqb c 13) refl)
 
 solid-line : (q : Line) → Ok q → (a : ℕ) → Rest q [] a → ⊥
-solid-line (clear left) ok a l = let h = long left [] (l .0) in omega arith
-solid-line (cr left) ok a l = let h = long (left + 1) (13 ∷ []) (l .0) in omega arith
+solid-line (line false left) ok a l = let h = long left [] (l .0) in omega arith
+solid-line (line true left) ok a l = let h = long (left + 1) (13 ∷ []) (l .0) in omega arith
 
 opens-line : (q : Line) → Ok q → (f : List ℕ) × (a : ℕ) × Rest q f a
-opens-line (clear left) ok = (13 ∷ 10 ∷ [], 0, (ended left ok, refl))
-opens-line (cr left) ok = (10 ∷ [], 0, (ended (left + 1) (omega arith), refl))
+opens-line (line false left) ok = (13 ∷ 10 ∷ [], 0, (ended left ok, refl))
+opens-line (line true left) ok = (10 ∷ [], 0, (ended (left + 1) (omega arith), refl))
 
 -- ── the parser ──
-pub line-exact : (k limit : ℕ) → 2 ≤ limit → (s : List ℕ) → Exact (leaf k (LineEnd limit)) (run k stepLine s (clear limit)) s
-line-exact k limit h s = machine-exact k Rest Ok stepLine opens-line solid-line sound-line s (clear limit) h
+pub line-exact : (k limit : ℕ) → 2 ≤ limit → (s : List ℕ) → Exact (leaf k (LineEnd limit)) (lineVerdict k limit s) s
+line-exact k limit h s = machine-exact k Rest Ok stepLine opens-line solid-line sound-line s (line false limit) h
 
 pub line-opens : (limit : ℕ) → 2 ≤ limit → LineEnd limit (13 ∷ 10 ∷ []) 0
 line-opens limit h = (ended limit h, refl)
@@ -196,28 +202,22 @@ abbrev pub lineEnd : (k limit : ℕ) → 2 ≤ limit → Parser ℕ
 lineEnd k limit h =
     record {
       field = leaf k (LineEnd limit);
-      verdict = λ s. run k stepLine s (clear limit);
+      verdict = lineVerdict k limit;
       exact = line-exact k limit h;
       opens = record { tail = 13 ∷ 10 ∷ []; value = 0; whole = line-opens limit h };
       bytes = line-bytes limit;
     }
 
 -- ── the steps, by the tests that the code makes ──
-module _ (left c : ℕ) where
-  pub byte-cr : c ≡ 13 → 2 ≤ left → byte left c ≡ go (cr (left - 1))
-  byte-cr e h = simp (eq-eqb c 13 e, le-leb 2 left h)
+pub lf-ends : (is-cr : Bool) (left c : ℕ) → is-cr ≡ true → c ≡ 10 → stepLine (line is-cr left) c ≡ done 0
+lf-ends is-cr left c t e = rw t (simp (eq-eqb c 10 e))
 
-  pub byte-cr-long : c ≡ 13 → left < 2 → byte left c ≡ dead
-  byte-cr-long e h = simp (eq-eqb c 13 e, lt-leb 2 left h)
+pub passes-by : (is-cr : Bool) (left c : ℕ) → (is-cr ≡ true → c ≡ 10 → ⊥) → stepLine (line is-cr left) c ≡ pass (eqb c 13) left c
+passes-by true left c other = simp (ne-eqb c 10 (other refl))
+passes-by false left c other = refl
 
-  pub byte-other : (c ≡ 13 → ⊥) → c < 256 → 3 ≤ left → byte left c ≡ go (clear (left - 1))
-  byte-other e s h = simp (ne-eqb c 13 e, le-leb 3 left h, lt-ltb c 256 s)
+pub pass-go : (is-cr : Bool) (left c : ℕ) → c < 256 → least is-cr ≤ left → pass is-cr left c ≡ go (line is-cr (left - 1))
+pass-go is-cr left c small h = simp (le-leb (least is-cr) left h, lt-ltb c 256 small)
 
-  pub byte-long : (c ≡ 13 → ⊥) → left < 3 → byte left c ≡ dead
-  byte-long e h = simp (ne-eqb c 13 e, lt-leb 3 left h)
-
-  pub cr-lf : c ≡ 10 → stepLine (cr left) c ≡ done 0
-  cr-lf e = simp (eq-eqb c 10 e)
-
-  pub cr-other : (c ≡ 10 → ⊥) → stepLine (cr left) c ≡ byte left c
-  cr-other e = simp (ne-eqb c 10 e)
+pub pass-dead : (is-cr : Bool) (left c : ℕ) → left < least is-cr → pass is-cr left c ≡ dead
+pass-dead is-cr left c h = simp (lt-leb (least is-cr) left h)

@@ -1,1 +1,129 @@
-// Text fields of version 1. The definitions and laws are in specs/.
+// The text fields of a version 1 header: decimal numbers, IPv4 addresses, and the end of an UNKNOWN line. The definitions and laws are in specs/.
+// No public function has a `requires`.
+ghost use mathlib.Core.Path.{_≡_};
+ghost use Prim.Native.Nat.{ℕ};
+ghost use Rattle.exact.specs.Told.{told};
+ghost use Rattle.text.specs.DecimalLeaf.{digit, decimalVerdict};
+ghost use Rattle.text.specs.LineLeaf.{lineVerdict};
+ghost use Rattle.text.specs.Answers.{moveOf, Ip4Answer};
+use exact::Scan;
+
+// What a byte makes of a number.
+enum Grown {
+    Number(u32),
+    Dead,
+}
+
+// The byte c as a digit behind those that make n, where the bound allows it.
+fn grow(n: u32, c: u8, bound: u32) -> Grown
+    ensures { λ r. ⌜ moveOf r ≡ digit bound n c ⌝ }
+{
+    if c < b'0' {
+        return Grown::Dead;
+    }
+    if b'9' < c {
+        return Grown::Dead;
+    }
+    let m = n as u64 * 10 + (c - b'0') as u64;
+    if m <= bound as u64 {
+        Grown::Number(m as u32)
+    } else {
+        Grown::Dead
+    }
+}
+
+// A decimal number up to the bound, with no leading zero, that the byte end ends.
+pub fn decimal(s: &[u8], bound: u32, end: u8) -> Scan
+    ensures { λ r. ⌜ ((k : ℕ) → told k r ≡ decimalVerdict k bound end (now (s .entry))) ⌝ }
+{
+    if s.len() == 0 {
+        return Scan::More;
+    }
+    let Grown::Number(first) = grow(0, s[0], bound) else {
+        return Scan::Refused(0);
+    };
+    let mut n = first;
+    let mut i: usize = 1;
+    while i < s.len() {
+        let c = s[i];
+        if c == end {
+            return Scan::Accepted(n, i + 1);
+        }
+        if n == 0 {
+            return Scan::Refused(i);
+        }
+        let Grown::Number(m) = grow(n, c, bound) else {
+            return Scan::Refused(i);
+        };
+        n = m;
+        i += 1;
+    }
+    Scan::More
+}
+
+// What a scan of IPv4 text finds, and the octets; they are 0 where none are accepted, and the scan's own value is 0.
+pub struct Octets {
+    pub scan: Scan,
+    pub octets: [u8; 4],
+}
+
+// Four decimals up to 255, each ended by a dot and the last by the byte end.
+pub fn ip4(s: &[u8], end: u8) -> Octets
+    ensures { λ r. ⌜ Ip4Answer (now (s .entry)) end r ⌝ }
+{
+    let mut octets = [0u8; 4];
+    let mut at: usize = 0;
+    let mut i: usize = 0;
+    while i < 4 {
+        let stop = if i < 3 { b'.' } else { end };
+        match decimal(&s[at..], 255, stop) {
+            Scan::Accepted(n, size) => {
+                octets[i] = n as u8;
+                at += size;
+            }
+            Scan::More => {
+                return Octets {
+                    scan: Scan::More,
+                    octets: [0; 4],
+                };
+            }
+            Scan::Refused(place) => {
+                return Octets {
+                    scan: Scan::Refused(at + place),
+                    octets: [0; 4],
+                };
+            }
+        }
+        i += 1;
+    }
+    Octets {
+        scan: Scan::Accepted(0, at),
+        octets,
+    }
+}
+
+// The end of a line of at most limit bytes: the first CR followed by LF. A byte behind which no end fits is refused.
+pub fn line_end(s: &[u8], limit: usize) -> Scan
+    ensures { λ r. ⌜ ((k : ℕ) → told k r ≡ lineVerdict k limit (now (s .entry))) ⌝ }
+{
+    let mut i: usize = 0;
+    let mut cr = false;
+    let end = loop {
+        if s.len() <= i {
+            return Scan::More;
+        }
+        let c = s[i];
+        if cr {
+            if c == b'\n' {
+                break i;
+            }
+        }
+        let least = if c == b'\r' { 2 } else { 3 };
+        if limit - i < least {
+            return Scan::Refused(i);
+        }
+        cr = c == b'\r';
+        i += 1;
+    };
+    Scan::Accepted(0, end + 1)
+}

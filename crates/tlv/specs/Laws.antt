@@ -1,9 +1,9 @@
 -- Laws of TLV areas: an area has one TLV list, joined lists are written one behind the other, and an area is of bytes.
 use mathlib.Core.Path.{_≡_, refl, sym, ap, _∙_, subst}
 use mathlib.Core.List.{List, [], _∷_, _++_, append-assoc}
-use Prim.Native.Nat.{ℕ, _/_, _%_}
+use Prim.Native.Nat.{ℕ}
 use native.Mathlib.Omega.{arith}
-use lib.ListN.{length, take, drop}
+use lib.ListN.{length, getD, take, drop}
 use lib.Seq.{take-at, drop-at}
 use Rattle.exact.specs.Claim.{AllBytes}
 use Rattle.exact.specs.Parser.{bytes-append}
@@ -16,16 +16,18 @@ same-parts a b c d n e = (
   sym (drop-at a b (length c) n) ∙ ap (drop (length c)) e ∙ drop-at c d (length c) refl,
 )
 
+abbrev pub byte : ℕ → List ℕ → ℕ
+byte i f = getD f i 0
+
 written-one : (a b : List Tlv) → written a ≡ written b → a ≡ b
 written-one [] [] e = refl
 written-one [] (u ∷ b) e = let z : _≡_ {A = ℕ} 0 1 = cc in absurd (omega arith)
 written-one (t ∷ a) [] e = let z : _≡_ {A = ℕ} 0 1 = cc in absurd (omega arith)
 written-one (t ∷ a) (u ∷ b) e =
-    let type : t .type ≡ u .type = cc in
-    let high : length (t .value) / 256 ≡ length (u .value) / 256 = cc in
-    let low : length (t .value) % 256 ≡ length (u .value) % 256 = cc in
-    let rest : t .value ++ written a ≡ u .value ++ written b = cc in
-    let parts = same-parts (t .value) (written a) (u .value) (written b) (omega arith) rest in
+    let type : t .type ≡ u .type = ap (byte 0) e in
+    let high = ap (byte 1) e in
+    let low = ap (byte 2) e in
+    let parts = same-parts (t .value) (written a) (u .value) (written b) (omega arith) (ap (drop 3) e) in
     let tail : a ≡ b = written-one a b (parts .1) in
     λ i. record { type = type i; value = parts .0 i } ∷ tail i
 

@@ -3,3 +3,5 @@ pub mod Laws
 pub mod Room
 pub mod Rules
 pub mod Region
+pub mod Turn
+pub mod Whole

@@ -33,7 +33,7 @@ enter zero (suc n) = go (typeByte (suc n))
 enter (suc v) n = go (valueByte v n)
 
 abbrev pub good : ℕ → ℕ → Bool
-good len room = pick (eqb len room) true (leb (len + 3) room)
+good size room = pick (eqb size room) true (leb (size + 3) room)
 
 abbrev pub stepByte : Due → ℕ → Move Due ℕ
 stepByte (typeByte n) c = pick (leb 3 n) (go (highByte (n - 3))) dead
@@ -77,23 +77,23 @@ opens (lowByte h room) ok =
 opens (valueByte v n) ok = let c = behind-fill (suc v) n ok in (c .0, 0, (c .1, refl))
 
 -- ── the tests ──
-good-by : (len room : ℕ) (b : Bool) → eqb len room ≡ b → (pick b true (leb (len + 3) room) ≡ true) ↔ Good len room
-good-by len room true e = (λ t. inl (eqb-true len room e), λ g. refl)
-good-by len room false e = (
+good-by : (size room : ℕ) (b : Bool) → eqb size room ≡ b → (pick b true (leb (size + 3) room) ≡ true) ↔ Good size room
+good-by size room true e = (λ t. inl (eqb-true size room e), λ g. refl)
+good-by size room false e = (
   λ t. inr (leb-true _ _ t),
-  ⊎-elim (λ g. absurd (eqb-false len room e g)) (λ g. le-leb _ _ g),
+  ⊎-elim (λ g. absurd (eqb-false size room e g)) (λ g. le-leb _ _ g),
 )
 
-pub good-true : (len room : ℕ) → (good len room ≡ true) ↔ Good len room
-good-true len room = good-by len room (eqb len room) refl
+pub good-true : (size room : ℕ) → (good size room ≡ true) ↔ Good size room
+good-true size room = good-by size room (eqb size room) refl
 
-good-false : (len room : ℕ) → good len room ≡ false → Good len room → ⊥
-good-false len room e g =
-    let t = good-true len room .1 g in
+good-false : (size room : ℕ) → good size room ≡ false → Good size room → ⊥
+good-false size room e g =
+    let t = good-true size room .1 g in
     let z : _≡_ {A = ℕ} 0 1 = cc in omega arith
 
 -- ── the steps are sound ──
-no-bytes : (f : List ℕ) → length f ≡ 0 → f ≡ []
+pub no-bytes : (f : List ℕ) → length f ≡ 0 → f ≡ []
 no-bytes [] e = refl
 no-bytes (x ∷ f) e = absurd (omega arith)
 
@@ -138,7 +138,7 @@ byte-sound (highByte room) c b ok =
     (λ t f a l. let h : room < 256 * c = leb-false _ _ t in let g = high-byte 0 c room f (l .0) .1 in omega arith)
 byte-sound (lowByte h room) c b ok =
     pick-by (Sound Lang Ok (lowByte h room) c) (good (256 * h + c) room) (λ t. low-sound h room c b (ok .0) (good-true _ _ .0 t))
-    (λ t f a l. good-false (256 * h + c) room t (low-rule 0 h room (omega arith) (ok .0) c b .0 (f, l .0)))
+    (λ t f a l. good-false (256 * h + c) room t (low-rule 0 h c room (omega arith) (ok .0) b .0 (f, l .0)))
 byte-sound (valueByte v n) c b ok = enter-sound (valueByte v n) c v n ok (λ f. (λ w. w .1, λ w. (b, w)))
 
 step-sound : (q : Due) (c : ℕ) → Ok q → Sound Lang Ok q c (step q c)

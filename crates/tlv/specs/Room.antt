@@ -7,9 +7,10 @@ use Prim.Native.Nat.{ℕ, zero, suc, _+_, _*_, _-_, _/_, _%_, _≤_, _<_}
 use native.Mathlib.Omega.{arith}
 use borrow.Author.Tests.{leb-true, leb-false}
 use lib.Dec.{leb}
-use lib.ListN.{length, length-append}
+use lib.ListN.{length, drop, length-append}
 use Rattle.exact.specs.Claim.{AllBytes}
 use Rattle.tlv.specs.Tlv.{Tlv, written, Proper, Area, WellFormed, Filled}
+use Rattle.tlv.specs.Laws.{byte}
 
 -- ── n bytes that TLVs can fill ──
 abbrev pub Fillable : ℕ → Type 0
@@ -111,10 +112,10 @@ module _ (t h l room : ℕ) (r : List ℕ) where
   head-by [] n a = let e = a .0 in let z : _≡_ {A = ℕ} 0 1 = cc in absurd (omega arith)
   head-by (u ∷ tlvs) n a =
       let e = a .0 in
-      let type : t ≡ u .type = cc in
-      let high : h ≡ length (u .value) / 256 = cc in
-      let low : l ≡ length (u .value) % 256 = cc in
-      let rest : r ≡ u .value ++ written tlvs = cc in
+      let type = ap (byte 0) e in
+      let high = ap (byte 1) e in
+      let low = ap (byte 2) e in
+      let rest : r ≡ u .value ++ written tlvs = ap (drop 3) e in
       let all : length (u .value) + length (written tlvs) ≡ room = sym (length-append (u .value) (written tlvs)) ∙ ap length (sym rest) ∙ n in
       let size : 256 * h + l ≡ length (u .value) = omega arith in
       let left : room - (256 * h + l) ≡ length (written tlvs) = omega arith in
@@ -149,8 +150,8 @@ type-by : (c d : ℕ) (f : List ℕ) (tlvs : List Tlv) → d < 256 → Area (c �
 type-by c d f [] b a = let e = a .0 in let z : _≡_ {A = ℕ} 0 1 = cc in absurd (omega arith)
 type-by c d f (u ∷ tlvs) b a =
     let e = a .0 in
-    let type : c ≡ u .type = cc in
-    let rest : f ≡ length (u .value) / 256 ∷ length (u .value) % 256 ∷ u .value ++ written tlvs = cc in (
+    let type = ap (byte 0) e in
+    let rest = ap (drop 1) e in (
       omega arith,
       (record { type = d; value = u .value } ∷ tlvs, (λ i. d ∷ rest i, (b, a .1 .1, a .1 .2, a .1 .3))),
     )
@@ -164,15 +165,15 @@ high-byte t h room (l ∷ r) w = let a = head-open t h l room r w in (a .high, l
 
 -- ── a length that leaves what TLVs can fill ──
 abbrev pub Good : ℕ → ℕ → Type 0
-Good len room = (len ≡ room) ⊎ (len + 3 ≤ room)
+Good size room = (size ≡ room) ⊎ (size + 3 ≤ room)
 
-pub good-leaves : (len room : ℕ) → Good len room → (len ≤ room) × Fillable (room - len)
-good-leaves len room (inl e) = (omega arith, inl (omega arith))
-good-leaves len room (inr h) = (omega arith, inr (omega arith))
+pub good-leaves : (size room : ℕ) → Good size room → (size ≤ room) × Fillable (room - size)
+good-leaves size room (inl e) = (omega arith, inl (omega arith))
+good-leaves size room (inr h) = (omega arith, inr (omega arith))
 
-pub leaves-good : (len room : ℕ) → len ≤ room → Fillable (room - len) → Good len room
-leaves-good len room h (inl e) = inl (omega arith)
-leaves-good len room h (inr g) = inr (omega arith)
+pub leaves-good : (size room : ℕ) → size ≤ room → Fillable (room - size) → Good size room
+leaves-good size room h (inl e) = inl (omega arith)
+leaves-good size room h (inr g) = inr (omega arith)
 
 -- a low byte that makes the length good
 pub some-low : (h room : ℕ) → 256 * h ≤ room → (l : ℕ) × (l < 256) × Good (256 * h + l) room

@@ -10,25 +10,25 @@ use Rattle.tlv.specs.Room.{fill, filled-fillable, behind-fill, behind-fi
 pub fill-rule : (n : ℕ) → Completes n [] ↔ ((n ≡ 0) ⊎ (3 ≤ n))
 fill-rule n = (λ c. filled-fillable n (c .0) (c .1), fill n)
 
-module _ (t h room : ℕ) (bt : t < 256) (bh : h < 256) where
-  -- "a length is good exactly if it equals R or is at most R - 3"
-  pub low-rule : (l : ℕ) → l < 256 → Completes (3 + room) (t ∷ h ∷ l ∷ []) ↔ ((256 * h + l ≡ room) ⊎ (256 * h + l + 3 ≤ room))
-  low-rule l bl = (
-    λ c.
-        let a = head-open t h l room (c .0) (c .1) in
-        leaves-good (256 * h + l) room (a .within) (behind-fillable (256 * h + l) (room - (256 * h + l)) (c .0) (a .behind)),
-    λ g.
-        let a = good-leaves (256 * h + l) room g in
-        let r = behind-fill (256 * h + l) (room - (256 * h + l)) (a .1) in
-        (r .0, head-shut t h l room (r .0) (record { type = bt; high = bh; low = bl; within = a .0; behind = r .1 })),
-  )
+-- "a length is good exactly if it equals R or is at most R - 3"
+pub low-rule : (t h l room : ℕ) → t < 256 → h < 256 → l < 256
+    → Completes (3 + room) (t ∷ h ∷ l ∷ []) ↔ ((256 * h + l ≡ room) ⊎ (256 * h + l + 3 ≤ room))
+low-rule t h l room type high low = (
+  λ c.
+      let a = head-open t h l room (c .0) (c .1) in
+      leaves-good (256 * h + l) room (a .within) (behind-fillable (256 * h + l) (room - (256 * h + l)) (c .0) (a .behind)),
+  λ g.
+      let a = good-leaves (256 * h + l) room g in
+      let r = behind-fill (256 * h + l) (room - (256 * h + l)) (a .1) in
+      (r .0, head-shut t h l room (r .0) (record { type = type; high = high; low = low; within = a .0; behind = r .1 })),
+)
 
-  -- "its high length byte h is dead exactly if 256 × h exceeds R"
-  pub high-rule : Completes (3 + room) (t ∷ h ∷ []) ↔ (256 * h ≤ room)
-  high-rule = (
-    λ c. high-byte t h room (c .0) (c .1) .1,
-    λ g.
-        let l = some-low h room g in
-        let c = low-rule (l .0) (l .1) .1 (l .2) in
-        (l .0 ∷ c .0, c .1),
-  )
+-- "its high length byte h is dead exactly if 256 × h exceeds R"
+pub high-rule : (t h room : ℕ) → t < 256 → h < 256 → Completes (3 + room) (t ∷ h ∷ []) ↔ (256 * h ≤ room)
+high-rule t h room type high = (
+  λ c. high-byte t h room (c .0) (c .1) .1,
+  λ g.
+      let l = some-low h room g in
+      let c = low-rule t h (l .0) room type high (l .1) .1 (l .2) in
+      (l .0 ∷ c .0, c .1),
+)

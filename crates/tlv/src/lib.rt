@@ -1,1 +1,72 @@
-// TLV areas.
+// TLV areas: bytes that TLVs fill, each a type, two length bytes (high first) and a value.
+// No public function has a `requires`.
+ghost use mathlib.Core.Path.{_≡_};
+ghost use mathlib.Core.Bool.{true};
+ghost use Prim.Native.Nat.{ℕ};
+ghost use Rattle.exact.specs.Told.{told};
+ghost use Rattle.tlv.specs.Tlv.{WellFormed};
+ghost use Rattle.tlv.specs.Region.{good, judge};
+use exact::Scan;
+
+// Whether a length is good: TLVs can fill what a value of that size leaves of the room behind the head.
+fn is_good(size: usize, room: usize) -> bool
+    ensures { λ r. ⌜ r ≡ good size room ⌝ }
+{
+    if size == room {
+        return true;
+    }
+    if room < 3 {
+        return false;
+    }
+    size <= room - 3
+}
+
+// Judges the area of n bytes that s begins with; bytes behind it are not looked at. More, if s is shorter and can still be
+// completed. TLVs fill no area of 1 or 2 bytes: it is refused at its first byte.
+pub fn region(s: &[u8], n: usize) -> Scan
+    ensures { λ r. ⌜ ((k : ℕ) → told k r ≡ judge k n (now (s .entry))) ⌝ }
+{
+    let mut i: usize = 0;
+    while i < n {
+        if s.len() <= i {
+            return Scan::More;
+        }
+        // Only at 0: a good length leaves nothing, or three bytes at least.
+        if n - i < 3 {
+            return Scan::Refused(i);
+        }
+        if s.len() <= i + 1 {
+            return Scan::More;
+        }
+        let room = n - i - 3;
+        let high = 256 * (s[i + 1] as usize);
+        if room < high {
+            return Scan::Refused(i + 1);
+        }
+        if s.len() <= i + 2 {
+            return Scan::More;
+        }
+        let size = high + (s[i + 2] as usize);
+        if is_good(size, room) {
+            i = i + 3 + size;
+        } else {
+            return Scan::Refused(i + 2);
+        }
+    }
+    if s.len() < n {
+        Scan::More
+    } else {
+        Scan::Accepted(0, n)
+    }
+}
+
+// Whether TLVs fill s; the empty area is well-formed.
+pub fn well_formed(s: &[u8]) -> bool
+    ensures { λ r. ⌜ ((r ≡ true → WellFormed (now (s .entry))) × (WellFormed (now (s .entry)) → r ≡ true)) ⌝ }
+{
+    match region(s, s.len()) {
+        Scan::Accepted(_, _) => true,
+        Scan::More => false,
+        Scan::Refused(_) => false,
+    }
+}

@@ -1,0 +1,45 @@
+-- For proofs. What the stages of a reader rest on: a stage stands at the place `at` of the bytes s and reads the field that P judges, and then what
+-- its value chooses.
+use mathlib.Core.Path.{_≡_, refl, sym, ap, _∙_}
+use mathlib.Core.List.{List}
+use Prim.Native.Nat.{ℕ, _+_, _≤_}
+use native.Mathlib.Omega.{arith}
+use lib.ListN.{length, drop, length-drop}
+use lib.Seq.{drop-drop}
+use Rattle.exact.specs.Claim.{Verdict, accepted, more, refused}
+use Rattle.exact.specs.Field.{after, shift}
+use Rattle.exact.specs.Machine.{shift-shift}
+use Rattle.exact.specs.Parser.{Parser, _then_, reach-le}
+
+module _ {A : Type 0} (P : Parser A) (s : List ℕ) (at : ℕ) (inside : at ≤ length s) where
+  -- an accepted field lies in the bytes
+  pub stage-inside : (a : A) (n : ℕ) → accepted a n ≡ P .verdict (drop at s) → at + n ≤ length s
+  stage-inside a n e =
+      let h = reach-le P (drop at s) (accepted a n) e in
+      let d = length-drop at s in
+      omega arith
+
+  -- and so does the place of a refusal
+  pub stage-place : (k p : ℕ) → refused k p ≡ P .verdict (drop at s) → at + p ≤ length s
+  stage-place k p e =
+      let h = reach-le P (drop at s) (refused k p) e in
+      let d = length-drop at s in
+      omega arith
+
+module _ {A B : Type 0} (P : Parser A) (Q : A → Parser B) (s : List ℕ) (at : ℕ) where
+  abbrev on : Verdict A → Verdict B
+  on v = shift at (after v (λ a r. Q a .verdict r) (drop at s))
+
+  pub stage-more : more ≡ P .verdict (drop at s) → more ≡ shift at ((P then Q) .verdict (drop at s))
+  stage-more e = ap on e
+
+  pub stage-refused : (k p : ℕ) → refused k p ≡ P .verdict (drop at s) → refused k (at + p) ≡ shift at ((P then Q) .verdict (drop at s))
+  stage-refused k p e = ap on e
+
+  pub stage-accepted : (a : A) (n : ℕ) (w : Verdict B) → accepted a n ≡ P .verdict (drop at s)
+      → w ≡ shift (at + n) (Q a .verdict (drop (at + n) s)) → w ≡ shift at ((P then Q) .verdict (drop at s))
+  stage-accepted a n w e h =
+      h
+      ∙ ap (λ (t : List ℕ). shift (at + n) (Q a .verdict t)) (sym (drop-drop n at s))
+      ∙ sym (shift-shift at n (Q a .verdict (drop n (drop at s))))
+      ∙ ap on e

@@ -1,0 +1,175 @@
+-- `decimal` answers as the decimal machine: the loop's invariant is that the verdict is the one from the index i on, behind the number n.
+use Prim.Native.Nat.{ℕ, _+_, _≤_, _<_, _-_}
+use mathlib.Core.Path.{_≡_, refl, sym, ap, _∙_}
+use mathlib.Core.List.{List, [], _∷_}
+use native.Mathlib.Omega.{arith}
+use borrow.Author.Needs.{needs}
+use lib.ListN.{length, getD}
+use Rattle.exact.specs.Claim.{refused, accepted, more}
+use Rattle.exact.specs.Machine.{Move, run, go, done, dead, from, from-start, from-end, from-go, from-done, from-dead}
+use Rattle.text.specs.DecimalLeaf.{At, decimalVerdict, stepDecimal, start, behind, behind-end, behind-zero, behind-digit}
+use Rattle.text.specs.declared.Grown.{Grown}
+use Rattle.text.specs.declared.Grown.the-variants.{Number, Dead}
+use Rattle.text.specs.Answers.{moveOf}
+use Rattle.text.proofs.decimal.Statement.{statement}
+use Rattle.text.proofs.decimal.Tie as tie
+use Rattle.text.proofs.decimal.Reads as reads
+use Rattle.text.proofs.decimal.Lts as lts
+use Rattle.text.proofs.grow.Reads as grow-reads
+
+abbrev Inv-loop : tie.InvT-loop
+Inv-loop s bound end first n₀ i₀ n i =
+    (i ≤ length s) × ((k : ℕ) → decimalVerdict k bound end s ≡ from k (stepDecimal bound end) s i (behind n))
+
+abbrev μ-loop : tie.MeasureT-loop
+μ-loop s bound end first n₀ i₀ n i = length s - i
+
+no-bytes : (k : ℕ) (step : At → ℕ → Move At ℕ) (s : List ℕ) → length s ≡ 0 → more ≡ run k step s start
+no-bytes k step [] h = refl
+no-bytes k step (c ∷ s) h = absurd (omega arith)
+
+-- ── the first byte ──
+abbrev First : Type 0
+First = lts.After-grow (grow-reads.Asked, grow-reads.Learnt) reads.Pre reads.Post Inv-loop μ-loop
+
+module _ (l : First) (k : ℕ) where
+  abbrev text₀ : List ℕ
+  text₀ = l .before .before .before .before .args .s .now
+
+  abbrev step₀ : At → ℕ → Move At ℕ
+  step₀ = stepDecimal (l .before .before .before .before .args .bound) (l .before .before .before .before .args .end)
+
+  some : 0 < length text₀
+  some = let h = l .before .before .if1 .left in omega arith
+
+  move₀ : (r : Grown) → l .grow .result ≡ r → step₀ start (getD text₀ 0 0) ≡ moveOf r
+  move₀ r e = sym (l .grow .ensures) ∙ ap moveOf e
+
+  dies-first : l .grow .result ≡ Dead → refused k 0 ≡ run k step₀ text₀ start
+  dies-first e = sym (from-start k step₀ text₀ start ∙ from-dead k step₀ text₀ 0 start some (move₀ Dead e))
+
+  goes-first : (n : ℕ) → l .grow .result ≡ Number n → run k step₀ text₀ start ≡ from k step₀ text₀ 1 (behind n)
+  goes-first n e = from-start k step₀ text₀ start ∙ from-go k step₀ text₀ 0 start (behind n) some (move₀ (Number n) e)
+
+-- ── a turn of the loop ──
+abbrev Turn : Type 0
+Turn = lts.After-shared-slice-known3 (grow-reads.Asked, grow-reads.Learnt) reads.Pre reads.Post Inv-loop μ-loop
+
+module _ (l : Turn) (k : ℕ) where
+  abbrev so-far : lts.At-loop (grow-reads.Asked, grow-reads.Learnt) reads.Pre reads.Post Inv-loop μ-loop
+  so-far = l .before .before
+
+  abbrev begun : First
+  begun = so-far .before .before .before .before
+
+  abbrev text : List ℕ
+  text = text₀ begun k
+
+  abbrev step : At → ℕ → Move At ℕ
+  step = step₀ begun k
+
+  abbrev at : ℕ
+  at = so-far .loop .i
+
+  abbrev number : ℕ
+  number = so-far .loop .n
+
+  dies : step (behind number) (getD text at 0) ≡ dead → refused k at ≡ run k step text start
+  dies e = sym (so-far .loop .inv .1 k ∙ from-dead k step text at (behind number) (l .before .loop-test .taken) e)
+
+  ends : step (behind number) (getD text at 0) ≡ done number → accepted number (at + 1) ≡ run k step text start
+  ends e = sym (so-far .loop .inv .1 k ∙ from-done k step text at (behind number) number (l .before .loop-test .taken) e)
+
+  goes : (n : ℕ) → step (behind number) (getD text at 0) ≡ go (behind n) → run k step text start ≡ from k step text (at + 1) (behind n)
+  goes n e = so-far .loop .inv .1 k ∙ from-go k step text at (behind number) (behind n) (l .before .loop-test .taken) e
+
+abbrev Grew : Type 0
+Grew = lts.After-grow2 (grow-reads.Asked, grow-reads.Learnt) reads.Pre reads.Post Inv-loop μ-loop
+
+move : (l : Grew) (k : ℕ) (r : Grown) → l .grow2 .result ≡ r
+    → step (l .before .before .before) k (behind (number (l .before .before .before) k)) (getD (text (l .before .before .before) k) (at (l .before .before .before) k) 0) ≡ moveOf r
+move l k r e = behind-digit _ _ _ _ (l .before .before .if2 .left) (l .before .if3 .left) ∙ sym (l .grow2 .ensures) ∙ ap moveOf e
+
+-- ── what is asked ──
+returns : tie.Need-returns Inv-loop μ-loop
+returns c = λ k. no-bytes k (stepDecimal (c .before .before .args .bound) (c .before .before .args .end)) (c .before .before .args .s .now) (c .if1 .taken)
+
+shared-slice-read-grow : tie.Need-shared-slice-read-grow Inv-loop μ-loop
+shared-slice-read-grow c = search needs
+
+grow-requires : tie.Need-grow-requires Inv-loop μ-loop
+grow-requires c κs = search needs
+
+enum-known-first : tie.Need-enum-known-first Inv-loop μ-loop
+enum-known-first c = search needs
+
+enum-told : tie.Need-enum-told Inv-loop μ-loop
+enum-told c = search needs
+
+returns-2 : tie.Need-returns-2 Inv-loop μ-loop
+returns-2 c = λ k. dies-first (c .before .before) k (c .enum-told .given .1)
+
+loop-holds : tie.Need-loop-holds Inv-loop μ-loop
+loop-holds c = (some (c .before .before .before) 0, λ k. goes-first (c .before .before .before) k _ (c .before .first .given .1))
+
+shared-slice-read-c : tie.Need-shared-slice-read-c Inv-loop μ-loop
+shared-slice-read-c c = search needs
+
+add-t18 : tie.Need-add-t18 Inv-loop μ-loop
+add-t18 c = omega arith
+
+returns-3 : tie.Need-returns-3 Inv-loop μ-loop
+returns-3 c = λ k. ends (c .before) k (behind-end _ _ _ _ (c .if2 .taken))
+
+returns-4 : tie.Need-returns-4 Inv-loop μ-loop
+returns-4 c = λ k. dies (c .before .before) k (behind-zero _ _ _ _ (c .before .if2 .left) (c .if3 .taken))
+
+grow-requires-2 : tie.Need-grow-requires-2 Inv-loop μ-loop
+grow-requires-2 c κs = search needs
+
+enum-known-m : tie.Need-enum-known-m Inv-loop μ-loop
+enum-known-m c = search needs
+
+enum-told-2 : tie.Need-enum-told-2 Inv-loop μ-loop
+enum-told-2 c = search needs
+
+returns-5 : tie.Need-returns-5 Inv-loop μ-loop
+returns-5 c = λ k. dies (c .before .before .before .before .before) k (move (c .before .before) k Dead (c .enum-told2 .given .1))
+
+add-i : tie.Need-add-i Inv-loop μ-loop
+add-i c = omega arith
+
+loop-less : tie.Need-loop-less Inv-loop μ-loop
+loop-less c = omega arith
+
+loop-again : tie.Need-loop-again Inv-loop μ-loop
+loop-again c = (omega arith, λ k. goes (c .before .before .before .before .before .before) k _ (move (c .before .before .before) k (Number (c .before .m .given .0 .0)) (c .before .m .given .1)))
+
+returns-6 : tie.Need-returns-6 Inv-loop μ-loop
+returns-6 c = λ k. sym (c .before .loop .inv .1 k ∙ from-end k _ _ _ _ (c .loop-test .left))
+
+pub decimal-spec : {M : Type 1} → statement M
+decimal-spec =
+    tie.close
+    (tie.spec
+    Inv-loop
+    μ-loop
+    returns
+    shared-slice-read-grow
+    grow-requires
+    enum-known-first
+    enum-told
+    returns-2
+    loop-holds
+    shared-slice-read-c
+    add-t18
+    returns-3
+    returns-4
+    grow-requires-2
+    enum-known-m
+    enum-told-2
+    returns-5
+    add-i
+    loop-less
+    loop-again
+    returns-6)

@@ -1,0 +1,198 @@
+-- `ip4` answers as four decimals one behind the other: the loop's invariant is that the verdict is the one from the octet i on, at the index at.
+use Prim.Native.Nat.{ℕ, suc, _+_, _≤_, _<_, _-_}
+use mathlib.Core.Path.{_≡_, refl, sym, ap, _∙_}
+use mathlib.Core.Bool.{Bool}
+use mathlib.Core.List.{List, [], _∷_}
+use mathlib.Core.Logic.{⊎-elim}
+use native.Mathlib.Omega.{arith}
+use borrow.Author.Needs.{needs}
+use lib.ListN.{length, drop, length-drop, length-set}
+use borrow.Author.Tests.{eq-eqb, ne-eqb}
+use Rattle.exact.specs.declared.Scan.{Scan}
+use Rattle.exact.specs.declared.Scan.the-variants.{Accepted, More, Refused}
+use Rattle.exact.specs.Pick.{pick}
+use Rattle.exact.specs.Parser.{tail-all}
+use Rattle.exact.specs.Told.{told}
+use Rattle.text.specs.Verdicts.{Within}
+use Rattle.text.specs.DecimalLeaf.{decimalVerdict, decimal-within}
+use Rattle.text.specs.Ip4Leaf.{endOf, ip4Verdict, octetsFrom, octets-start, octets-end, octet-more, octet-refused, octet-accepted}
+use Rattle.text.proofs.ip4.Statement.{statement}
+use Rattle.text.proofs.ip4.Tie as tie
+use Rattle.text.proofs.ip4.Reads as reads
+use Rattle.text.proofs.ip4.Lts as lts
+use Rattle.text.proofs.decimal.Reads as decimal-reads
+
+abbrev Inv-loop : tie.InvT-loop
+Inv-loop s end octets₀ at₀ i₀ octets at i =
+    (i ≤ 4) × (length octets ≡ 4) × (at ≤ length s) × ((k : ℕ) → ip4Verdict k end s ≡ octetsFrom k end s i octets at)
+
+abbrev μ-loop : tie.MeasureT-loop
+μ-loop s end octets₀ at₀ i₀ octets at i = 4 - i
+
+-- a turn of the loop, behind its call
+abbrev Turn : Type 0
+Turn = lts.After-decimal (decimal-reads.Asked, decimal-reads.Learnt) reads.Pre reads.Post Inv-loop μ-loop
+
+module _ (l : Turn) where
+  abbrev so-far : lts.At-loop (decimal-reads.Asked, decimal-reads.Learnt) reads.Pre reads.Post Inv-loop μ-loop
+  so-far = l .before .before .before .before
+
+  abbrev text : List ℕ
+  text = so-far .before .before .args .s .now
+
+  abbrev end : ℕ
+  end = so-far .before .before .args .end
+
+  abbrev octets : List ℕ
+  octets = so-far .loop .octets
+
+  abbrev at : ℕ
+  at = so-far .loop .at
+
+  abbrev i : ℕ
+  i = so-far .loop .i
+
+  inside : i < 4
+  inside = l .before .before .before .loop-test .taken
+
+  stop-is : l .before .before .if1 .stop ≡ endOf end (3 - i)
+  stop-is =
+      ⊎-elim (λ w. let h = w .0 .taken in w .1 ∙ ap (λ (b : Bool). pick b end 46) (sym (ne-eqb (3 - i) 0 (omega arith))))
+      (λ w. let h = w .0 .left in w .1 ∙ ap (λ (b : Bool). pick b end 46) (sym (eq-eqb (3 - i) 0 (omega arith))))
+      (l .before .before .if1 .came)
+
+  said : (k : ℕ) (r : Scan) → l .decimal .result ≡ r → told k r ≡ decimalVerdict k 255 (endOf end (3 - i)) (drop at text)
+  said k r e =
+      ap (told k) (sym e) ∙ l .decimal .ensures k
+      ∙ ap (λ (s : List ℕ). decimalVerdict k 255 (l .before .before .if1 .stop) s) (tail-all at text)
+      ∙ ap (λ (c : ℕ). decimalVerdict k 255 c (drop at text)) stop-is
+
+  within : (k : ℕ) (r : Scan) → l .decimal .result ≡ r → Within (λ (n : ℕ). n ≤ 255) (length text - at) (told k r)
+  within k r e = rw (said k r e) (rw (← (length-drop at text)) (decimal-within 255 (endOf end (3 - i)) k (drop at text)))
+
+loop-holds : tie.Need-loop-holds Inv-loop μ-loop
+loop-holds c = (omega arith, refl, omega arith, λ k. octets-start k _ _ (0 ∷ 0 ∷ 0 ∷ 0 ∷ []))
+
+sub-decimal : tie.Need-sub-decimal Inv-loop μ-loop
+sub-decimal c = omega arith
+
+part-decimal-start : tie.Need-part-decimal-start Inv-loop μ-loop
+part-decimal-start c = search needs
+
+part-decimal-end : tie.Need-part-decimal-end Inv-loop μ-loop
+part-decimal-end c = search needs
+
+decimal-requires : tie.Need-decimal-requires Inv-loop μ-loop
+decimal-requires c κs = search needs
+
+enum-known-n : tie.Need-enum-known-n Inv-loop μ-loop
+enum-known-n c = search needs
+
+-- what an accepted octet is
+module _ (c : lts.After-known-told (decimal-reads.Asked, decimal-reads.Learnt) reads.Pre reads.Post Inv-loop μ-loop) where
+  abbrev turn : Turn
+  turn = c .before .before .before
+
+  abbrev n : ℕ
+  n = c .before .n .given .0 .0
+
+  abbrev size : ℕ
+  size = c .before .n .given .0 .1 .0
+
+  small : n ≤ 255
+  small = within turn 0 (Accepted n size) (c .before .n .given .1) .0
+
+  fits : at turn + size ≤ length (text turn)
+  fits = let h = within turn 0 (Accepted n size) (c .before .n .given .1) .1 in let g = so-far turn .loop .inv .2 in omega arith
+
+cast-octets : tie.Need-cast-octets Inv-loop μ-loop
+cast-octets c = let h = small c in omega arith
+
+array-write-octets : tie.Need-array-write-octets Inv-loop μ-loop
+array-write-octets c = omega arith
+
+add-at : tie.Need-add-at Inv-loop μ-loop
+add-at c = let h = fits c in omega arith
+
+enum-told : tie.Need-enum-told Inv-loop μ-loop
+enum-told c = search needs
+
+returns : tie.Need-returns Inv-loop μ-loop
+returns c =
+    let turn : Turn = c .before .before in
+    record {
+      verdict = λ k.
+          octet-more k (end turn) (text turn) (i turn) (octets turn) (at turn) (inside turn) (said turn k More (c .enum-told .given .1))
+          ∙ sym (so-far turn .loop .inv .3 k);
+      unused = refl;
+    }
+
+enum-known-place : tie.Need-enum-known-place Inv-loop μ-loop
+enum-known-place c = search needs
+
+add-t22 : tie.Need-add-t22 Inv-loop μ-loop
+add-t22 c =
+    let turn : Turn = c .before .before .before in
+    let h = within turn 0 (Refused (c .before .place .given .0 .0)) (c .before .place .given .1) in
+    omega arith
+
+returns-2 : tie.Need-returns-2 Inv-loop μ-loop
+returns-2 c =
+    let turn : Turn = c .before .before .before in
+    record {
+      verdict = λ k.
+          octet-refused k (end turn) (text turn) (i turn) (octets turn) (at turn) (inside turn) _ (said turn k (Refused _) (c .before .place .given .1))
+          ∙ sym (so-far turn .loop .inv .3 k);
+      unused = refl;
+    }
+
+add-i : tie.Need-add-i Inv-loop μ-loop
+add-i c = omega arith
+
+loop-less : tie.Need-loop-less Inv-loop μ-loop
+loop-less c = omega arith
+
+loop-again : tie.Need-loop-again Inv-loop μ-loop
+loop-again c = (
+  omega arith,
+  length-set (octets (turn c)) (i (turn c)) (n c) ∙ so-far (turn c) .loop .inv .1,
+  fits c,
+  λ k.
+      so-far (turn c) .loop .inv .3 k
+      ∙ octet-accepted k (end (turn c)) (text (turn c)) (i (turn c)) (octets (turn c)) (at (turn c)) (inside (turn c)) (n c) (size c)
+      (so-far (turn c) .loop .inv .1) (said (turn c) k (Accepted (n c) (size c)) (c .before .n .given .1)),
+)
+
+returns-3 : tie.Need-returns-3 Inv-loop μ-loop
+returns-3 c =
+    record {
+      verdict = λ k.
+          octets-end k _ _ (c .before .loop .i) (c .before .loop .octets) (c .before .loop .at) (omega arith) (c .before .loop .inv .1)
+          ∙ sym (c .before .loop .inv .3 k);
+      unused = refl;
+    }
+
+pub ip4-spec : {M : Type 1} → statement M
+ip4-spec =
+    tie.close
+    (tie.spec
+    Inv-loop
+    μ-loop
+    loop-holds
+    sub-decimal
+    part-decimal-start
+    part-decimal-end
+    decimal-requires
+    enum-known-n
+    cast-octets
+    array-write-octets
+    add-at
+    enum-told
+    returns
+    enum-known-place
+    add-t22
+    returns-2
+    add-i
+    loop-less
+    loop-again
+    returns-3)
