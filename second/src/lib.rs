@@ -1,0 +1,30 @@
+//! An independent judge of PROXY protocol headers, versions 1 and 2.
+//!
+//! It answers as document 01 demands: accepted exactly if some prefix of the
+//! bytes is a whole header; more exactly if none is, but some continuation
+//! begins with one; else refused at the first dead byte, with the number of
+//! the field that holds it.
+//!
+//! What a whole header is stands here twice, both times without the judge:
+//!
+//! - `grammar` writes the text line and the first sixteen bytes of version 2
+//!   as expressions over byte strings, and `tlv` tells which numbers of bytes
+//!   TLVs can fill. Which bytes are dead is computed from these by
+//!   reachability; no rule about dead bytes is written down.
+//! - `whole` takes given bytes apart and tells whether they are a whole
+//!   header, and with which values. An accepted header gets its values here.
+
+pub mod cases;
+mod field;
+mod fixed_bytes;
+mod grammar;
+mod judge;
+mod record;
+mod tlv;
+mod verdict;
+mod whole;
+
+pub use judge::{judge, Judge};
+pub use record::{Kind, Record, Transport};
+pub use verdict::{Header, Verdict};
+pub use whole::whole_header;

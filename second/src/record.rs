@@ -1,0 +1,116 @@
+//! The connection record (document 01, The record) and byte 13 of version 2
+//! that names its kind.
+
+use std::fmt;
+
+/// Room for the longest address, that of a UNIX socket.
+pub const LONGEST_ADDRESS: usize = 108;
+
+#[derive(Clone, Copy, Debug, PartialEq, Eq)]
+pub enum Transport {
+    Stream,
+    Datagram,
+}
+
+#[derive(Clone, Copy, Debug, PartialEq, Eq)]
+pub enum Kind {
+    Local,
+    Unspecified,
+    Ip4(Transport),
+    Ip6(Transport),
+    Unix(Transport),
+}
+
+/// Byte 13 of a PROXY header and the address kind it stands for.
+pub const ADDRESS_KINDS: [(u8, Kind); 6] = [
+    (0x11, Kind::Ip4(Transport::Stream)),
+    (0x12, Kind::Ip4(Transport::Datagram)),
+    (0x21, Kind::Ip6(Transport::Stream)),
+    (0x22, Kind::Ip6(Transport::Datagram)),
+    (0x31, Kind::Unix(Transport::Stream)),
+    (0x32, Kind::Unix(Transport::Datagram)),
+];
+
+impl Kind {
+    /// The address kind that byte 13 of a PROXY header stands for.
+    pub fn of_family_byte(byte: u8) -> Option<Kind> {
+        ADDRESS_KINDS
+            .into_iter()
+            .find(|&(family, _)| family == byte)
+            .map(|(_, kind)| kind)
+    }
+
+    /// Bytes of one address.
+    pub fn address_length(self) -> usize {
+        match self {
+            Kind::Local | Kind::Unspecified => 0,
+            Kind::Ip4(_) => 4,
+            Kind::Ip6(_) => 16,
+            Kind::Unix(_) => LONGEST_ADDRESS,
+        }
+    }
+
+    pub fn has_ports(self) -> bool {
+        matches!(self, Kind::Ip4(_) | Kind::Ip6(_))
+    }
+
+    /// Bytes of the address block, A in document 01.
+    pub fn address_block_length(self) -> usize {
+        let ports = if self.has_ports() { 4 } else { 0 };
+        2 * self.address_length() + ports
+    }
+}
+
+impl fmt::Display for Transport {
+    fn fmt(&self, f: &mut fmt::Formatter) -> fmt::Result {
+        f.write_str(match self {
+            Transport::Stream => "stream",
+            Transport::Datagram => "datagram",
+        })
+    }
+}
+
+impl fmt::Display for Kind {
+    fn fmt(&self, f: &mut fmt::Formatter) -> fmt::Result {
+        match self {
+            Kind::Local => f.write_str("local"),
+            Kind::Unspecified => f.write_str("unspecified"),
+            Kind::Ip4(transport) => write!(f, "ip4-{transport}"),
+            Kind::Ip6(transport) => write!(f, "ip6-{transport}"),
+            Kind::Unix(transport) => write!(f, "unix-{transport}"),
+        }
+    }
+}
+
+/// Address bytes behind the kind's address length, and the ports of a kind
+/// that has none, are zero.
+#[derive(Clone, Debug, PartialEq, Eq)]
+pub struct Record {
+    pub kind: Kind,
+    pub source: [u8; LONGEST_ADDRESS],
+    pub destination: [u8; LONGEST_ADDRESS],
+    pub source_port: u16,
+    pub destination_port: u16,
+}
+
+impl Record {
+    /// A record whose addresses and ports are all zero.
+    pub fn blank(kind: Kind) -> Record {
+        Record {
+            kind,
+            source: [0; LONGEST_ADDRESS],
+            destination: [0; LONGEST_ADDRESS],
+            source_port: 0,
+            destination_port: 0,
+        }
+    }
+
+    /// A record with these addresses, each at most 108 bytes, and these ports.
+    pub fn new(kind: Kind, source: &[u8], destination: &[u8], ports: [u16; 2]) -> Record {
+        let mut record = Record::blank(kind);
+        record.source[..source.len()].copy_from_slice(source);
+        record.destination[..destination.len()].copy_from_slice(destination);
+        [record.source_port, record.destination_port] = ports;
+        record
+    }
+}

@@ -1,0 +1,207 @@
+//! Consequences of document 01, The binary block, but for the TLVs.
+
+use crate::helpers::*;
+use second::{judge, Kind, Verdict};
+
+/// Block bytes that differ from their neighbours.
+fn counting(length: usize) -> Vec<u8> {
+    (0..length).map(|place| (place % 251 + 1) as u8).collect()
+}
+
+#[test]
+fn every_byte_of_the_signature_counts() {
+    for place in 0..12 {
+        assert_eq!(judge(&S[..place]), Verdict::More);
+        for byte in (0..=0xFF).filter(|&byte| byte != S[place]) {
+            // At place 0 the text line may begin instead.
+            let answer = match (place, byte) {
+                (0, b'P') => Verdict::More,
+                _ => refused(1, place),
+            };
+            assert_eq!(judge(&[&S[..place], &[byte]].concat()), answer);
+        }
+    }
+    assert_eq!(judge(&S), Verdict::More);
+}
+
+#[test]
+fn byte_12_is_version_2_with_local_or_proxy() {
+    for byte in 0..=0xFF {
+        let answer = match byte {
+            0x20 | 0x21 => Verdict::More,
+            _ => refused(6, 12),
+        };
+        assert_eq!(judge(&behind_signature(&[byte])), answer);
+    }
+}
+
+#[test]
+fn byte_13_of_proxy_is_one_of_seven() {
+    for byte in 0..=0xFF {
+        let answer = match byte {
+            0x00 | 0x11 | 0x12 | 0x21 | 0x22 | 0x31 | 0x32 => Verdict::More,
+            _ => refused(7, 13),
+        };
+        assert_eq!(judge(&behind_signature(&[0x21, byte])), answer);
+    }
+}
+
+#[test]
+fn the_high_length_byte_is_never_dead() {
+    for family in [0x00, 0x11, 0x12, 0x21, 0x22, 0x31, 0x32] {
+        for high in 0..=0xFF {
+            assert_eq!(
+                judge(&behind_signature(&[0x21, family, high])),
+                Verdict::More
+            );
+            assert_eq!(
+                judge(&behind_signature(&[0x20, family, high])),
+                Verdict::More
+            );
+        }
+    }
+}
+
+#[test]
+fn the_length_is_a_or_at_least_a_plus_3() {
+    for (family, _, _, a) in ADDRESS_KINDS {
+        for length in 0..=65_535 {
+            let answer = if length == a || length >= a + 3 {
+                Verdict::More
+            } else {
+                refused(8, 15)
+            };
+            assert_eq!(judge(&binary(0x21, family, length, &[])), answer);
+        }
+    }
+}
+
+/// The four lengths at the border, written out: A, A + 1, A + 2, A + 3.
+#[test]
+fn lengths_at_the_border_of_each_kind() {
+    for (bytes, dead) in [
+        ([0x11, 0, 12], false),
+        ([0x11, 0, 11], true),
+        ([0x12, 0, 13], true),
+        ([0x12, 0, 14], true),
+        ([0x11, 0, 15], false),
+        ([0x21, 0, 36], false),
+        ([0x21, 0, 35], true),
+        ([0x22, 0, 37], true),
+        ([0x22, 0, 38], true),
+        ([0x21, 0, 39], false),
+        ([0x31, 0, 216], false),
+        ([0x31, 0, 215], true),
+        ([0x32, 0, 217], true),
+        ([0x32, 0, 218], true),
+        ([0x31, 0, 219], false),
+        ([0x31, 0, 0], true),
+        ([0x31, 1, 0], false),
+    ] {
+        let input = behind_signature(&[&[0x21], &bytes[..]].concat());
+        let answer = if dead { refused(8, 15) } else { Verdict::More };
+        assert_eq!(judge(&input), answer, "{bytes:?}");
+    }
+}
+
+/// Places in the block: 4 and 16 bytes an address, 2 a port.
+#[test]
+fn the_address_block_gives_the_record() {
+    for (family, kind, word, a) in ADDRESS_KINDS {
+        let block = counting(a);
+        let record = match a {
+            12 => record(kind, &[1, 2, 3, 4], &[5, 6, 7, 8], 0x090A, 0x0B0C),
+            36 => record(kind, &block[..16], &block[16..32], 0x2122, 0x2324),
+            _ => record(kind, &block[..108], &block[108..], 0, 0),
+        };
+        let input = binary(0x21, family, a, &block);
+        let end = 16 + a;
+        assert_eq!(judge(&input), accepted(record, 2, end, end..end));
+        assert_eq!(judge(&input).to_string(), format!("accepted {end} {word}"));
+        for length in 0..end {
+            assert_eq!(judge(&input[..length]), Verdict::More);
+        }
+    }
+}
+
+#[test]
+fn a_unix_address_is_kept_behind_a_zero_byte_too() {
+    let mut source = [0; 108];
+    source[..9].copy_from_slice(b"/a.sock\0b");
+    source[107] = 0xFF;
+    let destination = [0xEE; 108];
+    let input = binary(0x21, 0x32, 216, &[source, destination].concat());
+    let kind = Kind::Unix(second::Transport::Datagram);
+    let record = record(kind, &source, &destination, 0, 0);
+    assert_eq!(judge(&input), accepted(record, 2, 232, 232..232));
+}
+
+#[test]
+fn a_tlv_behind_the_address_block_is_given_as_the_area() {
+    for (family, kind, _, a) in ADDRESS_KINDS {
+        let input = binary(0x21, family, a + 3, &[vec![0; a], vec![4, 0, 0]].concat());
+        let end = 16 + a + 3;
+        let zeros = vec![0; 108];
+        let answer = accepted(record(kind, &zeros, &zeros, 0, 0), 2, end, 16 + a..end);
+        assert_eq!(judge(&input), answer);
+    }
+}
+
+#[test]
+fn local_takes_any_byte_13_and_any_length() {
+    for family in 0..=0xFF {
+        for length in [0, 1, 2, 11, 12, 13, 14, 15, 216, 217, 65_535] {
+            // As TLVs these bytes would be ill-formed.
+            let input = binary(0x20, family, length, &vec![0xFF; length]);
+            let end = 16 + length;
+            let answer = accepted(bare(Kind::Local), 2, end, end..end);
+            assert_eq!(judge(&input), answer);
+            if length > 0 {
+                assert_eq!(judge(&input[..end - 1]), Verdict::More);
+            }
+        }
+    }
+}
+
+#[test]
+fn proxy_unspecified_takes_any_length_and_block() {
+    for length in [0, 1, 2, 3, 12, 13, 300, 65_535] {
+        let input = binary(0x21, 0x00, length, &vec![0xFF; length]);
+        let end = 16 + length;
+        let answer = accepted(bare(Kind::Unspecified), 2, end, end..end);
+        assert_eq!(judge(&input), answer);
+        assert_eq!(judge(&[input, vec![0; 9]].concat()), answer);
+    }
+}
+
+#[test]
+fn bytes_behind_a_verdict_never_change_it() {
+    let behinds: [&[u8]; 5] = [
+        b"\0",
+        b"\r\n",
+        b"GET / HTTP/1.1\r\n\r\n",
+        &S,
+        b"PROXY TCP4 ",
+    ];
+    let inputs = [
+        b"PROXY UNKNOWN\r\n".to_vec(),
+        b"PROXY UNKNOWN x\r\n".to_vec(),
+        b"PROXY TCP6 ::1 ::2 3 4\r\n".to_vec(),
+        b"PROXY TCP4 1.2.3.x".to_vec(),
+        b"PROXY TCP4 1.2.3.4 1.2.3.4 1 1\rx".to_vec(),
+        binary(0x20, 0x99, 0, &[]),
+        binary(0x21, 0x11, 12, &[7; 12]),
+        binary(0x21, 0x11, 15, &[7; 15]),
+        binary(0x21, 0x12, 18, &[0; 18]),
+        binary(0x21, 0x12, 14, &[]),
+        binary(0x21, 0x99, 0, &[]),
+        binary(0x22, 0x11, 0, &[]),
+    ];
+    for input in inputs {
+        let verdict = judge(&input);
+        assert_ne!(verdict, Verdict::More, "{input:?}");
+        for behind in behinds {
+            assert_eq!(judge(&[&input[..], behind].concat()), verdict);
+        }
+    }
+}
