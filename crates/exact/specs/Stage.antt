@@ -1,13 +1,13 @@
 -- For proofs. What the stages of a reader rest on: a stage stands at the place `at` of the bytes s and reads the field that P judges, and then what
 -- its value chooses.
-use mathlib.Core.Path.{_≡_, refl, sym, ap, _∙_}
+use mathlib.Core.Path.{_≡_, refl, sym, ap, _∙_, subst}
 use mathlib.Core.List.{List}
 use Prim.Native.Nat.{ℕ, _+_, _≤_}
 use native.Mathlib.Omega.{arith}
 use lib.ListN.{length, drop, length-drop}
 use lib.Seq.{drop-drop}
 use Rattle.exact.specs.Claim.{Verdict, accepted, more, refused}
-use Rattle.exact.specs.Field.{after, shift}
+use Rattle.exact.specs.Field.{Exact, after, shift}
 use Rattle.exact.specs.Machine.{shift-shift}
 use Rattle.exact.specs.Parser.{Parser, _then_, reach-le}
 
@@ -18,6 +18,14 @@ module _ {A : Type 0} (P : Parser A) (s : List ℕ) (at : ℕ) (inside : at ≤ 
       let h = reach-le P (drop at s) (accepted a n) e in
       let d = length-drop at s in
       omega arith
+
+  -- and is a member of its language
+  pub stage-member : (a : A) (n : ℕ) → accepted a n ≡ P .verdict (drop at s) → (f : List ℕ) × P .field .lang f a
+  stage-member a n e =
+      let x : Exact (P .field) (accepted a n) (drop at s) =
+      subst (λ (v : Verdict A). Exact (P .field) v (drop at s)) (sym e) (P .exact (drop at s))
+      in
+      (x .front, x .whole)
 
   -- and so does the place of a refusal
   pub stage-place : (k p : ℕ) → refused k p ≡ P .verdict (drop at s) → at + p ≤ length s

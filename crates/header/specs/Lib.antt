@@ -7,3 +7,5 @@ pub mod BlockFields
 pub mod Places
 pub mod Exactness
 pub mod Table
+pub mod FactsForProofs
+pub mod Facts

@@ -21,6 +21,7 @@ hexOf c =
     (pick (among "a" "f" c) (c - code "a" + 10)
     (pick (among "A" "F" c) (c - code "A" + 10) 16))
 
+-- hex digits, one after the other
 abbrev pub HexDigits : List ℕ → Type 0
 HexDigits [] = Unit {0}
 HexDigits (c ∷ ds) = (hexOf c < 16) × HexDigits ds
@@ -72,3 +73,9 @@ pub record Shortened (f vs : List ℕ) : Type 0 where
 
 abbrev pub Address : List ℕ → List ℕ → Type 0
 Address f vs = Full f vs ⊎ Shortened f vs
+
+-- a byte that can end an address
+pub record Ending (end : ℕ) : Type 0 where
+  pub byte : end < 256
+  pub no-digit : hexOf end < 16 → ⊥
+  pub no-colon : end ≡ code ":" → ⊥

@@ -2,16 +2,16 @@
 use mathlib.Core.Path.{_≡_, refl, _∙_}
 use mathlib.Core.Bool.{Bool, true, false}
 use mathlib.Core.List.{List, [], _∷_}
-use Prim.Native.Nat.{ℕ, _<_}
+use Prim.Native.Nat.{ℕ, _+_, _*_, _<_}
 use native.Mathlib.Omega.{arith}
 use lib.Dec.{eqb}
 use lib.ListN.{length}
-use borrow.Author.Tests.{eqb-false, lt-ltb}
-use Rattle.ip6.specs.Address.{hexOf, filled}
-use Rattle.ip6.specs.Bytes.{hex-zero}
-use Rattle.ip6.specs.Machine.{Seen, plain, gapped, push, room, State, start, group, digits, behind, colon, gap, begin, step}
+use borrow.Author.Tests.{eqb-true, eqb-false, lt-ltb}
+use Rattle.ip6.specs.Address.{hexOf, filled, Ending}
+use Rattle.ip6.specs.Hex.{hex-zero}
+use Rattle.ip6.specs.Machine.{Seen, plain, gapped, push, room, State, start, digits, behind, colon, gap, inside, step}
 use Rattle.ip6.specs.Read.{Fits, fits-push, Good}
-use Rattle.ip6.specs.Steps.{Ending, colon-no-digit, begin-digit, Takes, goes, ends, alike, colon-colon, gap-end, follow-colon, follow-end, digits-follow}
+use Rattle.ip6.specs.Steps.{colon-no-digit, Takes, goes, ends, alike, colon-colon, gap-end, follow-colon, follow-end, inside-digit, inside-follow}
 
 module _ (end : ℕ) (e : Ending end) where
   abbrev Completes : State → Type 0
@@ -38,23 +38,32 @@ module _ (end : ℕ) (e : Ending end) where
           (58, r .0, r .1, colon-no-digit, goes end (behind (plain l)) (colon (plain l)) 58 (r .0) (r .1) (follow-colon end (plain l) (lt-ltb (length l) 8 few)) (r .2))
   behind-closes (gapped l r) h = (end, [], filled l r, e .no-digit, ends end (behind (gapped l r)) end (filled l r) (follow-end end e (gapped l r)))
 
-  digits-completes : (s : Seen) (n v : ℕ) → room s ≡ true → Completes (digits s n v)
-  digits-completes s n v h =
+  -- in a group, behind a digit
+  digits-completes : (s : Seen) (n v : ℕ) → room s ≡ true → (n ≡ 0 → ⊥) → Completes (digits s n v)
+  digits-completes s n v h some =
       let r = behind-closes (push s v) (fits-push s v h) in
-      (r .0 ∷ r .1, r .2, alike end (digits s n v) (behind (push s v)) (r .0) (r .1) (r .2) (digits-follow end s n v (r .0) (r .3)) (r .4))
+      (r .0 ∷ r .1, r .2, alike end (digits s n v) (behind (push s v)) (r .0) (r .1) (r .2) (inside-follow end s n v (r .0) (r .3) some) (r .4))
 
-  begins-completes : (q : State) (s : Seen) → step end q 48 ≡ begin s 48 → room s ≡ true → Completes q
-  begins-completes q s t h =
-      let r = digits-completes s 1 (hexOf 48) h in
-      (48 ∷ r .0, r .1, goes end q (digits s 1 (hexOf 48)) 48 (r .0) (r .1) (t ∙ begin-digit s 48 (let z = hex-zero in omega arith)) (r .2))
+  -- where a digit may follow, "0" does
+  zero-completes : (q : State) (s : Seen) (n v : ℕ) → step end q 48 ≡ inside end s n v 48 → room s ≡ true → n < 4 → Completes q
+  zero-completes q s n v t h few =
+      let r = digits-completes s (n + 1) (v * 16 + hexOf 48) h (λ z. omega arith) in (
+        48 ∷ r .0,
+        r .1,
+        goes end q (digits s (n + 1) (v * 16 + hexOf 48)) 48 (r .0) (r .1)
+            (t ∙ inside-digit end s n v 48 (let z = hex-zero in omega arith) few) (r .2),
+      )
+
+  inside-completes : (s : Seen) (n v : ℕ) (b : Bool) → eqb n 0 ≡ b → room s ≡ true → Completes (digits s n v)
+  inside-completes s n v true t h = zero-completes (digits s n v) s n v refl h (let z = eqb-true n 0 t in omega arith)
+  inside-completes s n v false t h = digits-completes s n v h (eqb-false n 0 t)
 
   pub completes : (q : State) → Good q → Completes q
   completes start g =
       let r = colon-completes [] in
       (58 ∷ r .0, r .1, goes end start (colon (plain [])) 58 (r .0) (r .1) refl (r .2))
-  completes (group s) g = begins-completes (group s) s refl (g .1 .1)
-  completes (digits s n v) g = digits-completes s n v (g .1 .1)
+  completes (digits s n v) g = inside-completes s n v (eqb n 0) refl (g .1 .room-here)
   completes (behind s) g = let r = behind-closes s (g .1 .1) in (r .0 ∷ r .1, r .2, r .4)
   completes (colon (plain l)) g = colon-completes l
-  completes (colon (gapped l r)) g = begins-completes (colon (gapped l r)) (gapped l r) refl (g .1 .1)
+  completes (colon (gapped l r)) g = zero-completes (colon (gapped l r)) (gapped l r) 0 0 refl (g .1 .1) (omega arith)
   completes (gap l) g = gap-completes l

@@ -1,9 +1,12 @@
 pub mod Address
-pub mod Bytes
+pub mod Bounds
+pub mod Told
 pub mod Machine
-pub mod Read
+pub mod Hex
 pub mod Steps
+pub mod Read
 pub mod Complete
 pub mod Walk
-pub mod Bounds
 pub mod Parser
+pub mod Partial
+pub mod Answer

@@ -24,9 +24,7 @@ room (gapped l r) = ltb (length l + length r) 7
 
 pub data State : Type 0 where
   start : State
-  -- a group must begin
-  group : Seen → State
-  -- in a group: the groups before it, how many digits it has, and what they make
+  -- in a group, or where one must begin: the groups before it, how many digits it has, and what they make
   digits : Seen → ℕ → ℕ → State
   -- a group has ended
   behind : Seen → State
@@ -35,24 +33,26 @@ pub data State : Type 0 where
   -- behind "::"
   gap : List ℕ → State
 
-abbrev pub begin : Seen → ℕ → Move State (List ℕ)
-begin s c = pick (ltb (hexOf c) 16) (go (digits s 1 (hexOf c))) dead
-
 abbrev pub finish : Seen → Move State (List ℕ)
 finish (plain l) = pick (eqb (length l) 8) (done l) dead
 finish (gapped l r) = done (filled l r)
 
 module _ (end : ℕ) where
+  -- behind a group
   abbrev pub follow : Seen → ℕ → Move State (List ℕ)
   follow s c = pick (eqb c 58) (pick (room s) (go (colon s)) dead) (pick (eqb c end) (finish s) dead)
 
+  -- in a group
+  abbrev pub inside : Seen → ℕ → ℕ → ℕ → Move State (List ℕ)
+  inside s n v c =
+      pick (ltb (hexOf c) 16) (pick (ltb n 4) (go (digits s (n + 1) (v * 16 + hexOf c))) dead)
+      (pick (eqb n 0) dead (follow (push s v) c))
+
   abbrev pub step : State → ℕ → Move State (List ℕ)
-  step start c = pick (eqb c 58) (go (colon (plain []))) (begin (plain []) c)
-  step (group s) c = begin s c
-  step (digits s n v) c =
-      pick (ltb (hexOf c) 16) (pick (ltb n 4) (go (digits s (n + 1) (v * 16 + hexOf c))) dead) (follow (push s v) c)
+  step start c = pick (eqb c 58) (go (colon (plain []))) (inside (plain []) 0 0 c)
+  step (digits s n v) c = inside s n v c
   step (behind s) c = follow s c
   step (colon (plain [])) c = pick (eqb c 58) (go (gap [])) dead
-  step (colon (plain (v ∷ l))) c = pick (eqb c 58) (go (gap (v ∷ l))) (begin (plain (v ∷ l)) c)
-  step (colon (gapped l r)) c = begin (gapped l r) c
-  step (gap l) c = pick (eqb c end) (done (filled l [])) (pick (room (gapped l [])) (begin (gapped l []) c) dead)
+  step (colon (plain (v ∷ l))) c = pick (eqb c 58) (go (gap (v ∷ l))) (inside (plain (v ∷ l)) 0 0 c)
+  step (colon (gapped l r)) c = inside (gapped l r) 0 0 c
+  step (gap l) c = pick (eqb c end) (done (filled l [])) (pick (room (gapped l [])) (inside (gapped l []) 0 0 c) dead)

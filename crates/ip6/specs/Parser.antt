@@ -7,11 +7,10 @@ use Rattle.exact.specs.Claim.{AllBytes}
 use Rattle.exact.specs.Ended.{Ended}
 use Rattle.exact.specs.Machine.{leaf}
 use Rattle.exact.specs.Parser.{Parser, machine, recast, bytes-append}
-use Rattle.ip6.specs.Address.{hexOf, Address}
+use Rattle.ip6.specs.Address.{hexOf, Address, Ending}
 use Rattle.ip6.specs.Bounds.{address-bounds, spelt-bytes}
 use Rattle.ip6.specs.Machine.{start, step}
 use Rattle.ip6.specs.Read.{Good, keeps, runs-address}
-use Rattle.ip6.specs.Steps.{Ending}
 use Rattle.ip6.specs.Complete.{completes}
 use Rattle.ip6.specs.Walk.{address-runs}
 

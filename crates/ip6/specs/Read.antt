@@ -7,12 +7,12 @@ use Prim.Native.Nat.{ℕ, _+_, _*_, _≤_, _<_}
 use native.Mathlib.Omega.{arith}
 use lib.Dec.{eqb, ltb}
 use lib.ListN.{length, length-append}
-use borrow.Author.Tests.{eqb-true, ltb-true}
+use borrow.Author.Tests.{eqb-true, eqb-false, ltb-true}
 use Rattle.exact.specs.Ended.{Ended}
 use Rattle.exact.specs.Machine.{Move, go, done, dead, Ends, Runs}
 use Rattle.exact.specs.Pick.{pick-by}
 use Rattle.ip6.specs.Address.{hexOf, HexDigits, number, Group, Groups, Side, Address}
-use Rattle.ip6.specs.Machine.{Seen, plain, gapped, push, room, State, start, group, digits, behind, colon, gap, begin, finish, follow, step}
+use Rattle.ip6.specs.Machine.{Seen, plain, gapped, push, room, State, start, digits, behind, colon, gap, finish, follow, inside, step}
 
 -- ── what a move leads to ──
 abbrev pub Leads : {Q A : Type 0} → (Q → Type 0) → (A → Type 0) → Move Q A → Type 0
@@ -62,19 +62,21 @@ abbrev pub Fits : Seen → Type 0
 Fits (plain l) = length l ≤ 8
 Fits (gapped l r) = length l + length r ≤ 7
 
--- in a group
+-- in a group, or where one begins
 pub record Inside (s : Seen) (n v : ℕ) (p : List ℕ) : Type 0 where
   pub front : List ℕ
   pub text : List ℕ
   pub split : p ≡ front ++ text
   pub open-at : Opening s front
-  pub group-so-far : Group text v
+  pub hex : HexDigits text
   pub size : length text ≡ n
+  pub few : n ≤ 4
+  pub value : v ≡ number 0 text
+  pub room-here : room s ≡ true
 
 abbrev pub Reads : State → List ℕ → Type 0
 Reads start p = p ≡ []
-Reads (group s) p = Opening s p × (room s ≡ true)
-Reads (digits s n v) p = Inside s n v p × (room s ≡ true)
+Reads (digits s n v) p = Inside s n v p
 Reads (behind s) p = Closed s p × Fits s
 Reads (colon s) p = Led s p × (room s ≡ true)
 Reads (gap l) p = (left : List ℕ) × (p ≡ left ++ 58 ∷ 58 ∷ []) × Side left l × (length l ≤ 7)
@@ -115,9 +117,6 @@ fits-push (plain l) v h = let w = ltb-true (length l) 8 h in simp length-append 
 fits-push (gapped l r) v h = let w = ltb-true (length l + length r) 7 h in simp length-append (omega arith)
 
 -- ── a step keeps it ──
-one : (c : ℕ) → hexOf c < 16 → Group (c ∷ []) (hexOf c)
-one c h = record { digits = (h, tt); some = omega arith; few = omega arith; value = omega arith }
-
 digits-snoc : (ds : List ℕ) (c : ℕ) → HexDigits ds → hexOf c < 16 → HexDigits (ds ++ c ∷ [])
 digits-snoc [] c a h = (h, tt)
 digits-snoc (d ∷ ds) c a h = (a .0, digits-snoc ds c (a .1) h)
@@ -126,14 +125,11 @@ number-snoc : (ds : List ℕ) (c v : ℕ) → number v (ds ++ c ∷ []) ≡ numb
 number-snoc [] c v = refl
 number-snoc (d ∷ ds) c v = number-snoc ds c (v * 16 + hexOf d)
 
-longer : (g : List ℕ) (v c : ℕ) → Group g v → hexOf c < 16 → length g < 4 → Group (g ++ c ∷ []) (v * 16 + hexOf c)
-longer g v c a h l =
-    record {
-      digits = digits-snoc g c (a .digits) h;
-      some = simp length-append (omega arith);
-      few = simp length-append (omega arith);
-      value = ap (λ (x : ℕ). x * 16 + hexOf c) (a .value) ∙ sym (number-snoc g c 0);
-    }
+whole-group : (s : Seen) (n v : ℕ) (p : List ℕ) (a : Inside s n v p) → (n ≡ 0 → ⊥) → Group (a .text) v
+whole-group s n v p a more =
+    let z = a .size in
+    let f = a .few in
+    record { digits = a .hex; some = omega arith; few = omega arith; value = a .value }
 
 groups-of : (l f : List ℕ) → Side f l → 0 < length l → Groups f l
 groups-of [] f a h = absurd (omega arith)
@@ -143,15 +139,6 @@ module _ (end : ℕ) where
   -- what is read with one byte more
   abbrev Now : List ℕ → Move State (List ℕ) → Type 0
   Now p = Leads (λ q. Reads q p) (Ended Address end p)
-
-  now-begin : (s : Seen) (p : List ℕ) (c : ℕ) → Opening s p → room s ≡ true → Now (p ++ c ∷ []) (begin s c)
-  now-begin s p c o r =
-      pick-by (Now (p ++ c ∷ [])) (ltb (hexOf c) 16)
-      (λ t. (
-        record { front = p; text = c ∷ []; split = refl; open-at = o; group-so-far = one c (ltb-true (hexOf c) 16 t); size = refl },
-        r,
-      ))
-      (λ t. tt)
 
   now-finish : (s : Seen) (p : List ℕ) → Closed s p → Fits s → Now (p ++ end ∷ []) (finish s)
   now-finish (plain l) p a h =
@@ -183,6 +170,47 @@ module _ (end : ℕ) where
       (λ t. pick-by (Now (p ++ c ∷ [])) (room s) (λ r. (rw (eqb-true c 58 t) (led s p a), r)) (λ r. tt))
       (λ t. pick-by (Now (p ++ c ∷ [])) (eqb c end) (λ e. rw (eqb-true c end e) (now-finish s p a h)) (λ e. tt))
 
+  now-inside : (s : Seen) (n v : ℕ) (p : List ℕ) (c : ℕ) → Inside s n v p → Now (p ++ c ∷ []) (inside end s n v c)
+  now-inside s n v p c a =
+      pick-by (Now (p ++ c ∷ [])) (ltb (hexOf c) 16)
+      (λ t.
+      pick-by (Now (p ++ c ∷ [])) (ltb n 4)
+      (λ few.
+      record {
+        front = a .front;
+        text = a .text ++ c ∷ [];
+        split = rw (a .split) (simp append-assoc);
+        open-at = a .open-at;
+        hex = digits-snoc (a .text) c (a .hex) (ltb-true (hexOf c) 16 t);
+        size = let z = a .size in simp length-append (omega arith);
+        few = let w = ltb-true n 4 few in omega arith;
+        value = ap (λ (x : ℕ). x * 16 + hexOf c) (a .value) ∙ sym (number-snoc (a .text) c 0);
+        room-here = a .room-here;
+      })
+      (λ few. tt))
+      (λ t.
+      pick-by (Now (p ++ c ∷ [])) (eqb n 0) (λ z. tt)
+      (λ z.
+      now-follow (push s v) p c
+      (rw (a .split) (closes s (a .front) (a .text) v (a .open-at) (whole-group s n v p a (eqb-false n 0 z))))
+      (fits-push s v (a .room-here))))
+
+  -- where a group begins
+  now-begin : (s : Seen) (p : List ℕ) (c : ℕ) → Opening s p → room s ≡ true → Now (p ++ c ∷ []) (inside end s 0 0 c)
+  now-begin s p c o r =
+      now-inside s 0 0 p c
+      (record {
+        front = p;
+        text = [];
+        split = sym (append-nil p);
+        open-at = o;
+        hex = tt;
+        size = refl;
+        few = omega arith;
+        value = refl;
+        room-here = r;
+      })
+
   now-gap : (l p : List ℕ) (c : ℕ) → Reads (gap l) p → Now (p ++ c ∷ []) (step end (gap l) c)
   now-gap l p c a =
       pick-by (Now (p ++ c ∷ [])) (eqb c end)
@@ -208,27 +236,7 @@ module _ (end : ℕ) where
   now-step : (q : State) (p : List ℕ) (c : ℕ) → Reads q p → Now (p ++ c ∷ []) (step end q c)
   now-step start p c a =
       pick-by (Now (p ++ c ∷ [])) (eqb c 58) (λ t. (rw (a, eqb-true c 58 t), refl)) (λ t. now-begin (plain []) p c a refl)
-  now-step (group s) p c a = now-begin s p c (a .0) (a .1)
-  now-step (digits s n v) p c a =
-      pick-by (Now (p ++ c ∷ [])) (ltb (hexOf c) 16)
-      (λ t.
-      pick-by (Now (p ++ c ∷ [])) (ltb n 4)
-      (λ few. (
-        record {
-          front = a .0 .front;
-          text = a .0 .text ++ c ∷ [];
-          split = rw (a .0 .split) (simp append-assoc);
-          open-at = a .0 .open-at;
-          group-so-far = longer (a .0 .text) v c (a .0 .group-so-far) (ltb-true (hexOf c) 16 t) (let w = ltb-true n 4 few in let z = a .0 .size in omega arith);
-          size = let z = a .0 .size in simp length-append (omega arith);
-        },
-        a .1,
-      ))
-      (λ few. tt))
-      (λ t.
-      now-follow (push s v) p c
-      (rw (a .0 .split) (closes s (a .0 .front) (a .0 .text) v (a .0 .open-at) (a .0 .group-so-far)))
-      (fits-push s v (a .1)))
+  now-step (digits s n v) p c a = now-inside s n v p c a
   now-step (behind s) p c a = now-follow s p c (a .0) (a .1)
   now-step (colon (plain [])) p c a =
       pick-by (Now (p ++ c ∷ [])) (eqb c 58) (λ t. ([], rw (a .0, eqb-true c 58 t), refl, omega arith)) (λ t. tt)

@@ -5,25 +5,16 @@ use mathlib.Core.List.{List, [], _∷_}
 use Prim.Native.Nat.{ℕ, _+_, _*_, _<_}
 use native.Mathlib.Omega.{arith}
 use borrow.Author.Tests.{lt-ltb, le-ltb, eq-eqb, ne-eqb}
-use Rattle.exact.specs.Machine.{go, done, Runs, runs-at}
-use Rattle.ip6.specs.Address.{hexOf, filled}
-use Rattle.ip6.specs.Bytes.{hex-colon}
-use Rattle.ip6.specs.Machine.{Seen, plain, push, room, State, digits, colon, gap, begin, finish, follow, step}
-
--- a byte that can end an address: neither a hex digit nor a colon
-pub record Ending (end : ℕ) : Type 0 where
-  pub byte : end < 256
-  pub no-digit : hexOf end < 16 → ⊥
-  pub no-colon : end ≡ 58 → ⊥
+use Rattle.exact.specs.Machine.{go, done, dead, Runs, runs-at}
+use Rattle.ip6.specs.Address.{hexOf, filled, Ending}
+use Rattle.ip6.specs.Hex.{hex-colon}
+use Rattle.ip6.specs.Machine.{Seen, plain, push, room, State, digits, colon, gap, finish, follow, inside, step}
 
 pub colon-no-digit : hexOf 58 < 16 → ⊥
 colon-no-digit h = let e = hex-colon in omega arith
 
 pub digit-no-colon : (c : ℕ) → hexOf c < 16 → c ≡ 58 → ⊥
 digit-no-colon c h z = colon-no-digit (rw z at h)
-
-pub begin-digit : (s : Seen) (c : ℕ) → hexOf c < 16 → begin s c ≡ go (digits s 1 (hexOf c))
-begin-digit s c h = simp (lt-ltb (hexOf c) 16 h)
 
 module _ (end : ℕ) where
   -- the bytes f take the machine from q to its end, with the groups vs
@@ -53,8 +44,11 @@ module _ (end : ℕ) where
   pub follow-end : Ending end → (s : Seen) → follow end s end ≡ finish s
   follow-end e s = simp (ne-eqb end 58 (e .no-colon), eq-eqb end end refl)
 
-  pub digits-more : (s : Seen) (n v c : ℕ) → hexOf c < 16 → n < 4 → step end (digits s n v) c ≡ go (digits s (n + 1) (v * 16 + hexOf c))
-  digits-more s n v c h few = simp (lt-ltb (hexOf c) 16 h, lt-ltb n 4 few)
+  pub inside-digit : (s : Seen) (n v c : ℕ) → hexOf c < 16 → n < 4 → inside end s n v c ≡ go (digits s (n + 1) (v * 16 + hexOf c))
+  inside-digit s n v c h few = simp (lt-ltb (hexOf c) 16 h, lt-ltb n 4 few)
 
-  pub digits-follow : (s : Seen) (n v c : ℕ) → (hexOf c < 16 → ⊥) → step end (digits s n v) c ≡ follow end (push s v) c
-  digits-follow s n v c h = simp (le-ltb (hexOf c) 16 (omega arith))
+  pub inside-follow : (s : Seen) (n v c : ℕ) → (hexOf c < 16 → ⊥) → (n ≡ 0 → ⊥) → inside end s n v c ≡ follow end (push s v) c
+  inside-follow s n v c h some = simp (le-ltb (hexOf c) 16 (omega arith), ne-eqb n 0 some)
+
+  pub begin-other : (s : Seen) (c : ℕ) → (hexOf c < 16 → ⊥) → inside end s 0 0 c ≡ dead
+  begin-other s c h = simp (le-ltb (hexOf c) 16 (omega arith))

@@ -1,5 +1,5 @@
 -- For proofs. An address takes the machine to its end.
-use mathlib.Core.Path.{_≡_, refl, ap, _∙_, subst}
+use mathlib.Core.Path.{_≡_, refl, _∙_, subst}
 use mathlib.Core.Bool.{Bool, true, false}
 use mathlib.Core.List.{List, [], _∷_, _++_, append-assoc}
 use mathlib.Core.Logic.{⊎-elim}
@@ -10,10 +10,10 @@ use lib.ListN.{length, length-append}
 use borrow.Author.Tests.{ltb-true, lt-ltb, eq-eqb, ne-eqb}
 use Rattle.exact.specs.Ended.{Ended}
 use Rattle.exact.specs.Machine.{dead, Runs, runs-at}
-use Rattle.ip6.specs.Address.{hexOf, HexDigits, number, Group, Groups, Full, Side, filled, Shortened, Address}
-use Rattle.ip6.specs.Machine.{Seen, plain, gapped, push, room, State, start, group, digits, behind, colon, gap, begin, step}
+use Rattle.ip6.specs.Address.{hexOf, HexDigits, number, Group, Groups, Full, Side, filled, Shortened, Address, Ending}
+use Rattle.ip6.specs.Machine.{Seen, plain, gapped, push, room, State, start, digits, behind, colon, gap, inside, step}
 use Rattle.ip6.specs.Read.{Fits}
-use Rattle.ip6.specs.Steps.{Ending, colon-no-digit, digit-no-colon, begin-digit, Takes, goes, ends, alike, gap-end, follow-colon, follow-end, digits-more, digits-follow}
+use Rattle.ip6.specs.Steps.{colon-no-digit, digit-no-colon, Takes, goes, ends, alike, gap-end, follow-colon, follow-end, inside-digit, inside-follow}
 
 -- groups behind those seen
 abbrev all : Seen → List ℕ → Seen
@@ -35,51 +35,52 @@ room-all (gapped l r) v w vs h =
     lt-ltb (length l + length (r ++ v ∷ [])) 7 (let k = simp length-append at h in simp length-append (omega arith))
 
 module _ (end : ℕ) (e : Ending end) where
-  digits-walk : (ds : List ℕ) (s : Seen) (n v c : ℕ) (t vs : List ℕ) → HexDigits ds → n + length ds ≤ 4 → (hexOf c < 16 → ⊥)
-      → Takes end (behind (push s (number v ds))) (c ∷ t) vs → Takes end (digits s n v) (ds ++ c ∷ t) vs
-  digits-walk [] s n v c t vs h few other r = alike end (digits s n v) (behind (push s v)) c t vs (digits-follow end s n v c other) r
-  digits-walk (d ∷ ds) s n v c t vs h few other r =
-      goes end (digits s n v) (digits s (n + 1) (v * 16 + hexOf d)) d (ds ++ c ∷ t) vs (digits-more end s n v d (h .0) (omega arith))
-      (digits-walk ds s (n + 1) (v * 16 + hexOf d) c t vs (h .1) (omega arith) other r)
+  digits-walk : (ds : List ℕ) (s : Seen) (n v c : ℕ) (t vs : List ℕ) → HexDigits ds → (n + length ds ≡ 0 → ⊥) → n + length ds ≤ 4
+      → (hexOf c < 16 → ⊥) → Takes end (behind (push s (number v ds))) (c ∷ t) vs → Takes end (digits s n v) (ds ++ c ∷ t) vs
+  digits-walk [] s n v c t vs h some few other r =
+      alike end (digits s n v) (behind (push s v)) c t vs (inside-follow end s n v c other (λ z. some (omega arith))) r
+  digits-walk (d ∷ ds) s n v c t vs h some few other r =
+      goes end (digits s n v) (digits s (n + 1) (v * 16 + hexOf d)) d (ds ++ c ∷ t) vs (inside-digit end s n v d (h .0) (omega arith))
+      (digits-walk ds s (n + 1) (v * 16 + hexOf d) c t vs (h .1) (λ z. omega arith) (omega arith) other r)
 
   group-walk : (g : List ℕ) (v : ℕ) (s : Seen) (c : ℕ) (t vs : List ℕ) → Group g v → (hexOf c < 16 → ⊥)
-      → Takes end (behind (push s v)) (c ∷ t) vs → Takes end (group s) (g ++ c ∷ t) vs
-  group-walk [] v s c t vs g other r = absurd (let h = g .some in omega arith)
-  group-walk (d ∷ ds) v s c t vs g other r =
-      let makes : v ≡ number (hexOf d) ds = g .value ∙ ap (λ (x : ℕ). number x ds) (omega arith) in
-      goes end (group s) (digits s 1 (hexOf d)) d (ds ++ c ∷ t) vs (begin-digit s d (g .digits .0))
-      (digits-walk ds s 1 (hexOf d) c t vs (g .digits .1) (let h = g .few in omega arith) other
-      (subst (λ (x : ℕ). Takes end (behind (push s x)) (c ∷ t) vs) makes r))
+      → Takes end (behind (push s v)) (c ∷ t) vs → Takes end (digits s 0 0) (g ++ c ∷ t) vs
+  group-walk g v s c t vs a other r =
+      let some = a .some in
+      let few = a .few in
+      digits-walk g s 0 0 c t vs (a .digits) (λ z. omega arith) (omega arith) other
+      (subst (λ (x : ℕ). Takes end (behind (push s x)) (c ∷ t) vs) (a .value) r)
 
   -- where a group begins, the first byte is a digit
-  first-digit : (q : State) (s : Seen) → ((c : ℕ) → hexOf c < 16 → step end q c ≡ begin s c) → (f vs : List ℕ) → Takes end (group s) f vs → Takes end q f vs
+  first-digit : (q : State) (s : Seen) → ((c : ℕ) → hexOf c < 16 → step end q c ≡ inside end s 0 0 c) → (f vs : List ℕ)
+      → Takes end (digits s 0 0) f vs → Takes end q f vs
   first-digit q s same [] vs r = absurd r
   first-digit q s same (c ∷ f) vs r = by (ltb (hexOf c) 16) refl
     where
       by : (b : Bool) → ltb (hexOf c) 16 ≡ b → Takes end q (c ∷ f) vs
-      by true t = alike end q (group s) c f vs (same c (ltb-true (hexOf c) 16 t)) r
-      by false t = absurd (runs-at (step end) (group s) c dead (rw t) f vs .0 r)
+      by true t = alike end q (digits s 0 0) c f vs (same c (ltb-true (hexOf c) 16 t)) r
+      by false t = absurd (runs-at (step end) (digits s 0 0) c dead (rw t) f vs .0 r)
 
-  group-start : (f vs : List ℕ) → Takes end (group (plain [])) f vs → Takes end start f vs
+  group-start : (f vs : List ℕ) → Takes end (digits (plain []) 0 0) f vs → Takes end start f vs
   group-start = first-digit start (plain []) (λ c h. simp (ne-eqb c 58 (digit-no-colon c h)))
 
-  group-colon : (s : Seen) (v : ℕ) (f vs : List ℕ) → Takes end (group (push s v)) f vs → Takes end (colon (push s v)) f vs
+  group-colon : (s : Seen) (v : ℕ) (f vs : List ℕ) → Takes end (digits (push s v) 0 0) f vs → Takes end (colon (push s v)) f vs
   group-colon (plain []) v = first-digit (colon (plain (v ∷ []))) (plain (v ∷ [])) (λ c h. simp (ne-eqb c 58 (digit-no-colon c h)))
   group-colon (plain (x ∷ l)) v =
       first-digit (colon (plain (x ∷ (l ++ v ∷ [])))) (plain (x ∷ (l ++ v ∷ []))) (λ c h. simp (ne-eqb c 58 (digit-no-colon c h)))
   group-colon (gapped l r) v = first-digit (colon (gapped l (r ++ v ∷ []))) (gapped l (r ++ v ∷ [])) (λ c h. refl)
 
-  group-gap : (l : List ℕ) → room (gapped l []) ≡ true → (f vs : List ℕ) → Takes end (group (gapped l [])) f vs → Takes end (gap l) f vs
+  group-gap : (l : List ℕ) → room (gapped l []) ≡ true → (f vs : List ℕ) → Takes end (digits (gapped l []) 0 0) f vs → Takes end (gap l) f vs
   group-gap l h =
       first-digit (gap l) (gapped l [])
       (λ c d. simp (ne-eqb c end (λ z. e .no-digit (rw z at d)), h))
 
   groups-walk : (ws f : List ℕ) (s : Seen) (c : ℕ) (t vs : List ℕ) → Groups f ws → Fits (all s ws) → (hexOf c < 16 → ⊥)
-      → Takes end (behind (all s ws)) (c ∷ t) vs → Takes end (group s) (f ++ c ∷ t) vs
+      → Takes end (behind (all s ws)) (c ∷ t) vs → Takes end (digits s 0 0) (f ++ c ∷ t) vs
   groups-walk [] f s c t vs g h other r = absurd g
   groups-walk (v ∷ []) f s c t vs g h other r = group-walk f v s c t vs g other (rw (push-one s v) at r)
   groups-walk (v ∷ w ∷ ws) f s c t vs g h other r =
-      let on : Takes end (group (push s v)) (g .1 ++ c ∷ t) vs =
+      let on : Takes end (digits (push s v) 0 0) (g .1 ++ c ∷ t) vs =
       groups-walk (w ∷ ws) (g .1) (push s v) c t vs (g .4) (rw (push-all s v (w ∷ ws)) at h) other (rw (push-all s v (w ∷ ws)) at r)
       in
       let here : Takes end (behind (push s v)) (58 ∷ (g .1 ++ c ∷ t)) vs =

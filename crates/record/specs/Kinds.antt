@@ -30,7 +30,7 @@ addressLength (Ip4 t) = 4
 addressLength (Ip6 t) = 16
 addressLength (Unix t) = 108
 
--- "UNIX has no ports": the bytes of a port in the address block, and the largest port of a kind
+-- "UNIX has no ports": the bytes of a port in the address block
 abbrev pub portLength : Kind → ℕ
 portLength Local = 0
 portLength Unspecified = 0

@@ -10,13 +10,12 @@ use lib.ListN.{length, take, drop, set}
 use lib.Seq.{take-all, take-suc-set, drop-drop}
 use Rattle.exact.specs.Claim.{Verdict, accepted, more, refused}
 use Rattle.exact.specs.Field.{Exact, Opens, after, shift}
-use Rattle.exact.specs.Machine.{leaf}
+use Rattle.exact.specs.Machine.{leaf, shift-shift}
 use Rattle.exact.specs.Pick.{pick, pick-by}
 use Rattle.exact.specs.Parser.{Parser, InBytes, just, _then_, recast}
 use Rattle.exact.specs.Ended.{Ended}
 use Rattle.text.specs.Decimal.{Digit}
 use Rattle.text.specs.Ip4.{Address}
-use Rattle.text.specs.Verdicts.{shift-zero, shift-shift}
 use Rattle.text.specs.DecimalLeaf.{decimalVerdict, decimal}
 
 -- the byte that ends an octet which m others follow
@@ -129,6 +128,11 @@ module _ (k end : ℕ) (apart : Digit end → ⊥) (small : end < 256) where
         bytes = ip4-bytes;
       }
 
+shift-zero : {A : Type 0} (v : Verdict A) → v ≡ shift 0 v
+shift-zero (accepted a n) = ap (λ (m : ℕ). accepted a m) (omega arith)
+shift-zero more = refl
+shift-zero (refused k p) = ap (λ (m : ℕ). refused k m) (omega arith)
+
 -- ── the verdict from the octet i on, at the index at, as a loop finds it ──
 module _ (k end : ℕ) (s : List ℕ) where
   abbrev pub octetsFrom : (i : ℕ) → (octets : List ℕ) → (at : ℕ) → Verdict (List ℕ)
@@ -136,7 +140,7 @@ module _ (k end : ℕ) (s : List ℕ) where
 
   pub octets-start : (octets : List ℕ) → ip4Verdict k end s ≡ octetsFrom 0 octets 0
   unfolding ip4Verdict
-  octets-start octets = sym (shift-zero (octetsVerdict k end 4 [] s))
+  octets-start octets = shift-zero (octetsVerdict k end 4 [] s)
 
   pub octets-end : (i : ℕ) (octets : List ℕ) (at : ℕ) → i ≡ 4 → length octets ≡ 4 → accepted octets at ≡ octetsFrom i octets at
   octets-end i octets at e size =
@@ -164,5 +168,5 @@ module _ (k end : ℕ) (s : List ℕ) where
     octet-accepted n size full e =
         let left : 4 - (i + 1) ≡ 3 - i = omega arith in
         by-octet (accepted n size) e
-        ∙ shift-shift at size (at + size) (next n (drop size (drop at s))) refl
+        ∙ shift-shift at size (next n (drop size (drop at s)))
         ∙ rw (left, add-one i, take-suc-set octets i n (omega arith), drop-drop size at s)

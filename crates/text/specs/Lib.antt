@@ -1,11 +1,12 @@
 pub mod Decimal
 pub mod Ip4
 pub mod Line
+pub mod Told
 pub mod Verdicts
 pub mod Endings
 pub mod DecimalLeaf
+pub mod Grows
 pub mod Ip4Leaf
 pub mod LineLeaf
-pub mod Laws
 pub mod LongLine
-pub mod Answers
+pub mod Laws

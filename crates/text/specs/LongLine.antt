@@ -3,16 +3,15 @@
 use mathlib.Core.Path.{_≡_, refl, sym, ap, _∙_}
 use mathlib.Core.Bool.{Bool, true, false}
 use mathlib.Core.List.{List, [], _∷_, _++_, append-assoc, append-nil}
-use Prim.Native.Nat.{ℕ, suc, _+_, _-_, _≤_, _<_}
+use Prim.Native.Nat.{ℕ, _+_, _-_, _≤_, _<_}
 use native.Mathlib.Omega.{arith}
 use lib.Dec.{eqb}
 use lib.ListN.{length}
 use lib.Seq.{append-snoc}
-use borrow.Author.Tests.{eqb-true, eqb-false, ne-eqb}
-use Rattle.exact.specs.Claim.{Verdict, accepted, more, refused, AllBytes}
+use borrow.Author.Tests.{eqb-true, ne-eqb}
+use Rattle.exact.specs.Claim.{more, refused, AllBytes}
 use Rattle.exact.specs.Field.{shift}
-use Rattle.exact.specs.Machine.{Move, go, dead, moved, run, from-start}
-use Rattle.text.specs.Verdicts.{shift-shift}
+use Rattle.exact.specs.Machine.{shift-shift, Move, go, dead, moved, run, from-start}
 use Rattle.text.specs.Line.{NoEnd}
 use Rattle.text.specs.LineLeaf.{Line, line, least, pass, stepLine, lineVerdict, passes-by, pass-go}
 
@@ -50,7 +49,11 @@ module _ (k : ℕ) where
       record {
         at = w .at;
         left = let h = w .left in omega arith;
-        goes = λ r. rw e (ap (shift 1) (w .goes r) ∙ shift-shift 1 (length u) (suc (length u)) (run k stepLine r (w .at)) (omega arith));
+        goes = λ r.
+            rw e
+            (ap (shift 1) (w .goes r)
+            ∙ shift-shift 1 (length u) (run k stepLine r (w .at))
+            ∙ ap (λ (n : ℕ). shift n (run k stepLine r (w .at))) (omega arith));
         holds = λ d h. w .holds d (none (u ++ d ∷ []) h);
       }
 
@@ -86,13 +89,13 @@ module _ (k : ℕ) where
 -- ── the verdicts ──
 module _ (k limit : ℕ) (u : List ℕ) (bytes : AllBytes u) where
   -- bytes without an end, behind which CR LF still fits
-  pub short-more : NoEnd u → length u + 2 ≤ limit → run k stepLine u (line false limit) ≡ more
+  pub short-more : NoEnd u → length u + 2 ≤ limit → lineVerdict k limit u ≡ more
   short-more none fits =
-      ap (λ (t : List ℕ). run k stepLine t (line false limit)) (sym (append-nil u)) ∙ passes k u (line false limit) bytes none fits .goes []
+      ap (λ (t : List ℕ). lineVerdict k limit t) (sym (append-nil u)) ∙ passes k u (line false limit) bytes none fits .goes []
 
   -- the byte behind them
   next : (c : ℕ) (r : List ℕ) (m : Move Line ℕ) → NoEnd (u ++ c ∷ []) → length u + 2 ≡ limit → pass (eqb c 13) 2 c ≡ m
-      → run k stepLine (u ++ c ∷ r) (line false limit) ≡ shift (length u) (moved k m (run k stepLine r))
+      → lineVerdict k limit (u ++ c ∷ r) ≡ shift (length u) (moved k m (run k stepLine r))
   next c r m none fits e =
       let w = passes k u (line false limit) bytes (no-end-front u (c ∷ []) none) (omega arith) in
       let two : room (w .at) ≡ 2 = let h = w .left in omega arith in
@@ -100,11 +103,11 @@ module _ (k limit : ℕ) (u : List ℕ) (bytes : AllBytes u) where
       w .goes (c ∷ r) ∙ ap (λ (n : Move Line ℕ). shift (length u) (moved k n (run k stepLine r))) step
 
   -- so many that behind one more only LF still fits: more, if that one is CR
-  pub long-more : NoEnd (u ++ 13 ∷ []) → length u + 2 ≡ limit → run k stepLine (u ++ 13 ∷ []) (line false limit) ≡ more
+  pub long-more : NoEnd (u ++ 13 ∷ []) → length u + 2 ≡ limit → lineVerdict k limit (u ++ 13 ∷ []) ≡ more
   long-more none fits = next 13 [] (go (line true 1)) none fits refl
 
   -- and refused there, if it is not
   pub long-refused : (c : ℕ) (r : List ℕ) → NoEnd (u ++ c ∷ []) → length u + 2 ≡ limit → (c ≡ 13 → ⊥)
-      → run k stepLine (u ++ c ∷ r) (line false limit) ≡ refused k (length u)
+      → lineVerdict k limit (u ++ c ∷ r) ≡ refused k (length u)
   long-refused c r none fits other =
       next c r dead none fits (ap (λ (b : Bool). pass b 2 c) (ne-eqb c 13 other)) ∙ ap (λ (n : ℕ). refused k n) (omega arith)

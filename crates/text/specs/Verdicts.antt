@@ -1,23 +1,12 @@
 -- For proofs. What holds of a machine's verdict whatever field it is for: it speaks of no more bytes than there are, and its value is one that
 -- the steps allow.
-use mathlib.Core.Path.{_≡_, refl, ap}
 use mathlib.Core.List.{List, [], _∷_}
-use Prim.Native.Nat.{ℕ, suc, _+_, _≤_}
+use Prim.Native.Nat.{ℕ, suc, _≤_}
 use native.Mathlib.Omega.{arith}
 use lib.ListN.{length}
 use Rattle.exact.specs.Claim.{Verdict, accepted, more, refused}
 use Rattle.exact.specs.Field.{shift}
 use Rattle.exact.specs.Machine.{Move, go, done, dead, moved, run}
-
-pub shift-zero : {A : Type 0} (v : Verdict A) → shift 0 v ≡ v
-shift-zero (accepted a n) = ap (λ (m : ℕ). accepted a m) (omega arith)
-shift-zero more = refl
-shift-zero (refused k p) = ap (λ (m : ℕ). refused k m) (omega arith)
-
-pub shift-shift : {A : Type 0} (i j n : ℕ) (v : Verdict A) → i + j ≡ n → shift i (shift j v) ≡ shift n v
-shift-shift i j n (accepted a m) e = ap (λ (x : ℕ). accepted a x) (omega arith)
-shift-shift i j n more e = refl
-shift-shift i j n (refused k p) e = ap (λ (x : ℕ). refused k x) (omega arith)
 
 -- a value with P, and at most n bytes
 abbrev pub Within : {A : Type 0} → (A → Type 0) → ℕ → Verdict A → Type 0

@@ -1,12 +1,15 @@
 // The text fields of a version 1 header: decimal numbers, IPv4 addresses, and the end of an UNKNOWN line. The definitions and laws are in specs/.
 // No public function has a `requires`.
+use exact::Scan;
 ghost use mathlib.Core.Path.{_≡_};
 ghost use Prim.Native.Nat.{ℕ};
+ghost use lib.ListN.{replicate};
 ghost use Rattle.exact.specs.Told.{told};
+ghost use Rattle.text.specs.Told.{toldOctets, Unused};
 ghost use Rattle.text.specs.DecimalLeaf.{digit, decimalVerdict};
+ghost use Rattle.text.specs.Grows.{moveOf};
+ghost use Rattle.text.specs.Ip4Leaf.{ip4Verdict};
 ghost use Rattle.text.specs.LineLeaf.{lineVerdict};
-ghost use Rattle.text.specs.Answers.{moveOf, Ip4Answer};
-use exact::Scan;
 
 // What a byte makes of a number.
 enum Grown {
@@ -61,20 +64,30 @@ pub fn decimal(s: &[u8], bound: u32, end: u8) -> Scan
     Scan::More
 }
 
-// What a scan of IPv4 text finds, and the octets; they are 0 where none are accepted, and the scan's own value is 0.
+// What a scan of IPv4 text finds, and the octets: they are 0 where none are accepted. The scan's own value is 0.
 pub struct Octets {
     pub scan: Scan,
     pub octets: [u8; 4],
 }
 
+// The answer where no octets are accepted.
+fn without(scan: Scan) -> Octets
+    ensures { λ r. ⌜ (r .scan ≡ scan) × (r .octets ≡ replicate 4 0) ⌝ }
+{
+    Octets {
+        scan,
+        octets: [0; 4],
+    }
+}
+
 // Four decimals up to 255, each ended by a dot and the last by the byte end.
 pub fn ip4(s: &[u8], end: u8) -> Octets
-    ensures { λ r. ⌜ Ip4Answer (now (s .entry)) end r ⌝ }
+    ensures verdict { λ r. ⌜ ((k : ℕ) → toldOctets k r ≡ ip4Verdict k end (now (s .entry))) ⌝ }
+    ensures unused { λ r. ⌜ Unused (r .scan) (r .octets) ⌝ }
 {
     let mut octets = [0u8; 4];
     let mut at: usize = 0;
-    let mut i: usize = 0;
-    while i < 4 {
+    for i in 0..4 {
         let stop = if i < 3 { b'.' } else { end };
         match decimal(&s[at..], 255, stop) {
             Scan::Accepted(n, size) => {
@@ -82,19 +95,12 @@ pub fn ip4(s: &[u8], end: u8) -> Octets
                 at += size;
             }
             Scan::More => {
-                return Octets {
-                    scan: Scan::More,
-                    octets: [0; 4],
-                };
+                return without(Scan::More);
             }
             Scan::Refused(place) => {
-                return Octets {
-                    scan: Scan::Refused(at + place),
-                    octets: [0; 4],
-                };
+                return without(Scan::Refused(at + place));
             }
         }
-        i += 1;
     }
     Octets {
         scan: Scan::Accepted(0, at),

@@ -16,6 +16,7 @@ same-parts a b c d n e = (
   sym (drop-at a b (length c) n) ∙ ap (drop (length c)) e ∙ drop-at c d (length c) refl,
 )
 
+-- the byte at a place
 abbrev pub byte : ℕ → List ℕ → ℕ
 byte i f = getD f i 0
 

@@ -10,12 +10,13 @@ use lib.Dec.{ltb, leb}
 use lib.ListN.{length, length-append}
 use Rattle.exact.specs.Claim.{Verdict, accepted, more, refused}
 use Rattle.exact.specs.Field.{Exact}
-use Rattle.exact.specs.Machine.{leaf, Move, dead, moved, run}
+use Rattle.exact.specs.Machine.{leaf, Move, moved, run}
 use Rattle.exact.specs.Pick.{pick-by}
 use Rattle.tlv.specs.Tlv.{WellFormed}
 use Rattle.tlv.specs.Room.{filled-fillable}
 use Rattle.tlv.specs.Region.{Due, typeByte, step, no-bytes, Region, judge, judge-exact}
 
+-- the verdict accepts, whatever the value and the length
 abbrev pub Accepted : Verdict ℕ → Type 0
 Accepted (accepted a n) = Unit {0}
 Accepted more = ⊥

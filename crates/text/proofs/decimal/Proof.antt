@@ -10,12 +10,9 @@ use Rattle.exact.specs.Machine.{Move, run, go, done, dead, from, from-start, fr
 use Rattle.text.specs.DecimalLeaf.{At, decimalVerdict, stepDecimal, start, behind, behind-end, behind-zero, behind-digit}
 use Rattle.text.specs.declared.Grown.{Grown}
 use Rattle.text.specs.declared.Grown.the-variants.{Number, Dead}
-use Rattle.text.specs.Answers.{moveOf}
+use Rattle.text.specs.Grows.{moveOf}
 use Rattle.text.proofs.decimal.Statement.{statement}
 use Rattle.text.proofs.decimal.Tie as tie
-use Rattle.text.proofs.decimal.Reads as reads
-use Rattle.text.proofs.decimal.Lts as lts
-use Rattle.text.proofs.grow.Reads as grow-reads
 
 abbrev Inv-loop : tie.InvT-loop
 Inv-loop s bound end first n₀ i₀ n i =
@@ -30,7 +27,7 @@ no-bytes k step (c ∷ s) h = absurd (omega arith)
 
 -- ── the first byte ──
 abbrev First : Type 0
-First = lts.After-grow (grow-reads.Asked, grow-reads.Learnt) reads.Pre reads.Post Inv-loop μ-loop
+First = tie.After-grow Inv-loop μ-loop
 
 module _ (l : First) (k : ℕ) where
   abbrev text₀ : List ℕ
@@ -53,10 +50,10 @@ module _ (l : First) (k : ℕ) where
 
 -- ── a turn of the loop ──
 abbrev Turn : Type 0
-Turn = lts.After-shared-slice-known3 (grow-reads.Asked, grow-reads.Learnt) reads.Pre reads.Post Inv-loop μ-loop
+Turn = tie.After-shared-slice-known3 Inv-loop μ-loop
 
 module _ (l : Turn) (k : ℕ) where
-  abbrev so-far : lts.At-loop (grow-reads.Asked, grow-reads.Learnt) reads.Pre reads.Post Inv-loop μ-loop
+  abbrev so-far : tie.At-loop Inv-loop μ-loop
   so-far = l .before .before
 
   abbrev begun : First
@@ -84,7 +81,7 @@ module _ (l : Turn) (k : ℕ) where
   goes n e = so-far .loop .inv .1 k ∙ from-go k step text at (behind number) (behind n) (l .before .loop-test .taken) e
 
 abbrev Grew : Type 0
-Grew = lts.After-grow2 (grow-reads.Asked, grow-reads.Learnt) reads.Pre reads.Post Inv-loop μ-loop
+Grew = tie.After-grow2 Inv-loop μ-loop
 
 move : (l : Grew) (k : ℕ) (r : Grown) → l .grow2 .result ≡ r
     → step (l .before .before .before) k (behind (number (l .before .before .before) k)) (getD (text (l .before .before .before) k) (at (l .before .before .before) k) 0) ≡ moveOf r

@@ -1,26 +1,25 @@
 -- `ip4` answers as four decimals one behind the other: the loop's invariant is that the verdict is the one from the octet i on, at the index at.
-use Prim.Native.Nat.{ℕ, suc, _+_, _≤_, _<_, _-_}
-use mathlib.Core.Path.{_≡_, refl, sym, ap, _∙_}
+use Prim.Native.Nat.{ℕ, _+_, _≤_, _<_, _-_}
+use mathlib.Core.Path.{_≡_, refl, sym, ap, ap₂, _∙_, subst₂}
 use mathlib.Core.Bool.{Bool}
 use mathlib.Core.List.{List, [], _∷_}
 use mathlib.Core.Logic.{⊎-elim}
 use native.Mathlib.Omega.{arith}
 use borrow.Author.Needs.{needs}
-use lib.ListN.{length, drop, length-drop, length-set}
+use lib.ListN.{replicate, length, drop, length-drop, length-set}
 use borrow.Author.Tests.{eq-eqb, ne-eqb}
 use Rattle.exact.specs.declared.Scan.{Scan}
 use Rattle.exact.specs.declared.Scan.the-variants.{Accepted, More, Refused}
 use Rattle.exact.specs.Pick.{pick}
 use Rattle.exact.specs.Parser.{tail-all}
 use Rattle.exact.specs.Told.{told}
+use Rattle.text.specs.declared.Octets.{Octets}
+use Rattle.text.specs.Told.{heard, toldOctets, Unused}
 use Rattle.text.specs.Verdicts.{Within}
 use Rattle.text.specs.DecimalLeaf.{decimalVerdict, decimal-within}
 use Rattle.text.specs.Ip4Leaf.{endOf, ip4Verdict, octetsFrom, octets-start, octets-end, octet-more, octet-refused, octet-accepted}
 use Rattle.text.proofs.ip4.Statement.{statement}
 use Rattle.text.proofs.ip4.Tie as tie
-use Rattle.text.proofs.ip4.Reads as reads
-use Rattle.text.proofs.ip4.Lts as lts
-use Rattle.text.proofs.decimal.Reads as decimal-reads
 
 abbrev Inv-loop : tie.InvT-loop
 Inv-loop s end octets₀ at₀ i₀ octets at i =
@@ -29,12 +28,21 @@ Inv-loop s end octets₀ at₀ i₀ octets at i =
 abbrev μ-loop : tie.MeasureT-loop
 μ-loop s end octets₀ at₀ i₀ octets at i = 4 - i
 
+abbrev Answered : List ℕ → ℕ → Octets → Type 0
+Answered s end r = ((k : ℕ) → toldOctets k r ≡ ip4Verdict k end s) × Unused (r .scan) (r .octets)
+
+-- an answer without octets
+answered : (s : List ℕ) (end : ℕ) (r : Octets) (scan : Scan) → (r .scan ≡ scan) × (r .octets ≡ replicate 4 0)
+    → ((k : ℕ) → heard k scan (replicate 4 0) ≡ ip4Verdict k end s) → Unused scan (replicate 4 0) → Answered s end r
+answered s end r scan e verdict unused =
+    (λ k. ap₂ (heard k) (e .0) (e .1) ∙ verdict k, subst₂ Unused (sym (e .0)) (sym (e .1)) unused)
+
 -- a turn of the loop, behind its call
 abbrev Turn : Type 0
-Turn = lts.After-decimal (decimal-reads.Asked, decimal-reads.Learnt) reads.Pre reads.Post Inv-loop μ-loop
+Turn = tie.After-decimal Inv-loop μ-loop
 
 module _ (l : Turn) where
-  abbrev so-far : lts.At-loop (decimal-reads.Asked, decimal-reads.Learnt) reads.Pre reads.Post Inv-loop μ-loop
+  abbrev so-far : tie.At-loop Inv-loop μ-loop
   so-far = l .before .before .before .before
 
   abbrev text : List ℕ
@@ -89,7 +97,7 @@ enum-known-n : tie.Need-enum-known-n Inv-loop μ-loop
 enum-known-n c = search needs
 
 -- what an accepted octet is
-module _ (c : lts.After-known-told (decimal-reads.Asked, decimal-reads.Learnt) reads.Pre reads.Post Inv-loop μ-loop) where
+module _ (c : tie.After-known-told Inv-loop μ-loop) where
   abbrev turn : Turn
   turn = c .before .before .before
 
@@ -117,34 +125,40 @@ add-at c = let h = fits c in omega arith
 enum-told : tie.Need-enum-told Inv-loop μ-loop
 enum-told c = search needs
 
+without-requires : tie.Need-without-requires Inv-loop μ-loop
+without-requires c κs = search needs
+
 returns : tie.Need-returns Inv-loop μ-loop
 returns c =
-    let turn : Turn = c .before .before in
-    record {
-      verdict = λ k.
-          octet-more k (end turn) (text turn) (i turn) (octets turn) (at turn) (inside turn) (said turn k More (c .enum-told .given .1))
-          ∙ sym (so-far turn .loop .inv .3 k);
-      unused = refl;
-    }
+    let turn : Turn = c .before .before .before in
+    answered _ _ _ More (c .without .ensures)
+    (λ k.
+    octet-more k (end turn) (text turn) (i turn) (octets turn) (at turn) (inside turn) (said turn k More (c .before .enum-told .given .1))
+    ∙ sym (so-far turn .loop .inv .3 k))
+    refl
 
 enum-known-place : tie.Need-enum-known-place Inv-loop μ-loop
 enum-known-place c = search needs
 
-add-t22 : tie.Need-add-t22 Inv-loop μ-loop
-add-t22 c =
+add-t21 : tie.Need-add-t21 Inv-loop μ-loop
+add-t21 c =
     let turn : Turn = c .before .before .before in
     let h = within turn 0 (Refused (c .before .place .given .0 .0)) (c .before .place .given .1) in
     omega arith
 
+without-requires-2 : tie.Need-without-requires-2 Inv-loop μ-loop
+without-requires-2 c κs = search needs
+
 returns-2 : tie.Need-returns-2 Inv-loop μ-loop
 returns-2 c =
-    let turn : Turn = c .before .before .before in
-    record {
-      verdict = λ k.
-          octet-refused k (end turn) (text turn) (i turn) (octets turn) (at turn) (inside turn) _ (said turn k (Refused _) (c .before .place .given .1))
-          ∙ sym (so-far turn .loop .inv .3 k);
-      unused = refl;
-    }
+    let turn : Turn = c .before .before .before .before in
+    let place : ℕ = c .before .before .place .given .0 .0 in
+    answered _ _ _ (Refused (at turn + place)) (c .without2 .ensures)
+    (λ k.
+    octet-refused k (end turn) (text turn) (i turn) (octets turn) (at turn) (inside turn) place
+    (said turn k (Refused place) (c .before .before .place .given .1))
+    ∙ sym (so-far turn .loop .inv .3 k))
+    refl
 
 add-i : tie.Need-add-i Inv-loop μ-loop
 add-i c = omega arith
@@ -164,13 +178,12 @@ loop-again c = (
 )
 
 returns-3 : tie.Need-returns-3 Inv-loop μ-loop
-returns-3 c =
-    record {
-      verdict = λ k.
-          octets-end k _ _ (c .before .loop .i) (c .before .loop .octets) (c .before .loop .at) (omega arith) (c .before .loop .inv .1)
-          ∙ sym (c .before .loop .inv .3 k);
-      unused = refl;
-    }
+returns-3 c = (
+  λ k.
+      octets-end k _ _ (c .before .loop .i) (c .before .loop .octets) (c .before .loop .at) (omega arith) (c .before .loop .inv .1)
+      ∙ sym (c .before .loop .inv .3 k),
+  refl,
+)
 
 pub ip4-spec : {M : Type 1} → statement M
 ip4-spec =
@@ -188,9 +201,11 @@ ip4-spec =
     array-write-octets
     add-at
     enum-told
+    without-requires
     returns
     enum-known-place
-    add-t22
+    add-t21
+    without-requires-2
     returns-2
     add-i
     loop-less

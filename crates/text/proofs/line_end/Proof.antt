@@ -1,21 +1,18 @@
 -- `line_end` answers as the line's machine: the loop's invariant is that the verdict is the one from the index i on, with limit - i bytes to come.
 use Prim.Native.Nat.{ℕ, _+_, _≤_, _<_, _-_}
-use mathlib.Core.Path.{_≡_, refl, sym, ap, _∙_}
-use mathlib.Core.Bool.{Bool, true, false}
+use mathlib.Core.Path.{_≡_, sym, ap, _∙_}
+use mathlib.Core.Bool.{true, false}
 use mathlib.Core.List.{List}
-use mathlib.Core.Logic.{_⊎_, inl, inr, ⊎-elim}
+use mathlib.Core.Logic.{⊎-elim}
 use native.Mathlib.Omega.{arith}
-use borrow.Author.Needs.{needs}
 use lib.Dec.{eqb}
 use lib.ListN.{length, getD}
 use borrow.Author.Tests.{eq-eqb, ne-eqb}
-use Rattle.exact.specs.Claim.{refused, accepted, more}
-use Rattle.exact.specs.Machine.{Move, run, go, done, dead, from, from-start, from-end, from-go, from-done, from-dead}
-use Rattle.text.specs.LineLeaf.{Line, line, least, pass, stepLine, lineVerdict, lf-ends, passes-by, pass-go, pass-dead}
+use Rattle.exact.specs.Claim.{refused}
+use Rattle.exact.specs.Machine.{from, from-start, from-end, from-go, from-done, from-dead}
+use Rattle.text.specs.LineLeaf.{line, least, pass, stepLine, lineVerdict, lf-ends, passes-by, pass-go, pass-dead}
 use Rattle.text.proofs.line_end.Statement.{statement}
 use Rattle.text.proofs.line_end.Tie as tie
-use Rattle.text.proofs.line_end.Reads as reads
-use Rattle.text.proofs.line_end.Lts as lts
 
 abbrev Inv-loop : tie.InvT-loop
 Inv-loop s limit i₀ cr₀ i cr =
@@ -26,10 +23,10 @@ abbrev μ-loop : tie.MeasureT-loop
 
 -- a turn that does not end the line
 abbrev Turn : Type 0
-Turn = lts.Joined4 reads.Pre reads.Post Inv-loop μ-loop
+Turn = tie.Joined4 Inv-loop μ-loop
 
 module _ (l : Turn) where
-  abbrev so-far : lts.At-loop reads.Pre reads.Post Inv-loop μ-loop
+  abbrev so-far : tie.At-loop Inv-loop μ-loop
   so-far = l .before .before .before .before
 
   abbrev text : List ℕ

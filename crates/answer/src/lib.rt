@@ -1,0 +1,84 @@
+// What a reader answers to lent received bytes, and the answers without a header. No public function has a `requires`.
+use record::Kind;
+use record::Record;
+ghost use mathlib.Core.Path.{_≡_};
+ghost use mathlib.Core.List.{List};
+ghost use Prim.Native.Nat.{ℕ};
+ghost use Rattle.exact.specs.Claim.{more as moreOf, refused as refusedOf};
+ghost use Rattle.record.specs.Records.{bare};
+ghost use Rattle.answer.specs.Answers.{Answers, numberOf};
+
+// The field that holds the first dead byte: document 01's numbers 1 to 9.
+pub enum Refusal {
+    Start,
+    Word,
+    Address,
+    Port,
+    End,
+    Command,
+    Family,
+    Length,
+    Tlv,
+}
+
+// What the bytes so far are.
+pub enum Verdict {
+    // They begin with a whole header of this length and version.
+    Accepted { length: usize, version: u8 },
+    // They do not yet, and some continuation does.
+    More,
+    // None does, and the byte at this place is the first that rules it out.
+    Refused { refusal: Refusal, place: usize },
+}
+
+// A verdict, and the header's record; where no header is accepted, the record is unspecified.
+pub struct Reading {
+    pub verdict: Verdict,
+    pub record: Record,
+}
+
+// Why nothing is written: document 01's numbers 10 to 14.
+pub enum Fault {
+    Form,
+    Unused,
+    Area,
+    Size,
+    Room,
+}
+
+// What a writer answers: how many bytes it wrote, or why it left the output as it was.
+pub enum Written {
+    Bytes(usize),
+    Refused(Fault),
+}
+
+// The record that says nothing of a caller, of this kind.
+pub fn blank(kind: Kind) -> Record
+    ensures { λ r. ⌜ r ≡ bare kind ⌝ }
+{
+    Record {
+        kind,
+        source: [0; 108],
+        destination: [0; 108],
+        source_port: 0,
+        destination_port: 0,
+    }
+}
+
+pub fn more() -> Reading
+    ensures { λ r. ⌜ ((s : List ℕ) → Answers s moreOf r) ⌝ }
+{
+    Reading {
+        verdict: Verdict::More,
+        record: blank(Kind::Unspecified),
+    }
+}
+
+pub fn refused(refusal: Refusal, place: usize) -> Reading
+    ensures { λ r. ⌜ ((s : List ℕ) → Answers s (refusedOf (numberOf refusal) place) r) ⌝ }
+{
+    Reading {
+        verdict: Verdict::Refused { refusal, place },
+        record: blank(Kind::Unspecified),
+    }
+}

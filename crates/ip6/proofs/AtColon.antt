@@ -1,0 +1,109 @@
+-- What `colon` may answer, by its tests on the byte at place i: behind a group, behind a colon, and behind "::".
+use mathlib.Core.Path.{_≡_, refl, sym, ap, _∙_}
+use mathlib.Core.Bool.{true, false}
+use mathlib.Core.List.{List, [], _∷_}
+use Prim.Native.Nat.{ℕ, zero, suc, _+_, _≤_, _<_}
+use native.Mathlib.Omega.{arith}
+use lib.ListN.{length, getD, take}
+use borrow.Author.Tests.{lt-ltb, le-ltb, eq-eqb, ne-eqb}
+use Rattle.exact.specs.Machine.{go, dead}
+use Rattle.exact.specs.declared.Scan.the-variants.{Refused}
+use Rattle.ip6.specs.declared.Partial.{Partial}
+use Rattle.ip6.specs.declared.Scanned.{Scanned}
+use Rattle.ip6.specs.Machine.{Seen, plain, gapped, room, digits, behind, colon, gap, finish, follow, step}
+use Rattle.ip6.specs.Steps.{colon-no-digit, colon-colon, begin-other}
+use Rattle.ip6.specs.Partial.{seenAt, seenOf, Sized, Gapped}
+use Rattle.ip6.specs.Answer.{Without, From, Closed}
+use Rattle.ip6.proofs.Spread.{count-length}
+use Rattle.ip6.proofs.Seen.{has-room, is-full, none-seen, gap-seen}
+use Rattle.ip6.proofs.Turn.{refuses, passes, likewise, closes}
+
+-- ── the moves ──
+module _ (end c : ℕ) where
+  follow-other : (n : Seen) → (c ≡ 58 → ⊥) → (c ≡ end → ⊥) → follow end n c ≡ dead
+  follow-other n a b = simp (ne-eqb c 58 a, ne-eqb c end b)
+
+  follow-ends : (n : Seen) → (c ≡ 58 → ⊥) → c ≡ end → follow end n c ≡ finish n
+  follow-ends n a b = simp (ne-eqb c 58 a, eq-eqb c end b)
+
+  follow-full : (n : Seen) → c ≡ 58 → room n ≡ false → follow end n c ≡ dead
+  follow-full n a b = simp (eq-eqb c 58 a, b)
+
+  follow-more : (n : Seen) → c ≡ 58 → room n ≡ true → follow end n c ≡ go (colon n)
+  follow-more n a b = simp (eq-eqb c 58 a, b)
+
+  lone-step : (n : Seen) → n ≡ plain [] → (c ≡ 58 → ⊥) → step end (colon n) c ≡ dead
+  lone-step n e a = rw e (simp (ne-eqb c 58 a))
+
+  group-step : (g : ℕ) (l : List ℕ) → 0 < length l → (c ≡ 58 → ⊥) → step end (colon (seenAt g l)) c ≡ step end (digits (seenAt g l) 0 0) c
+  group-step zero [] h a = absurd (omega arith)
+  group-step zero (v ∷ l) h a = simp (ne-eqb c 58 a)
+  group-step (suc g) l h a = refl
+
+  twice-step : (g : ℕ) (l : List ℕ) → 0 < g → c ≡ 58 → step end (colon (seenAt g l)) c ≡ dead
+  twice-step zero l h a = absurd (omega arith)
+  twice-step (suc g) l h a = begin-other end (seenAt (suc g) l) c (λ d. colon-no-digit (rw a at d))
+
+  gap-step : (g : ℕ) (l : List ℕ) → g ≡ 0 → c ≡ 58 → step end (colon (seenAt g l)) c ≡ go (gap l)
+  gap-step g l e a = rw (e, a) (colon-colon end l)
+
+  end-step : (l : List ℕ) → c ≡ end → step end (gap l) c ≡ finish (gapped l [])
+  end-step l a = simp (eq-eqb c end a)
+
+  full-step : (l : List ℕ) → (c ≡ end → ⊥) → 7 ≤ length l → step end (gap l) c ≡ dead
+  full-step l a h = simp (ne-eqb c end a, le-ltb (length l + 0) 7 (omega arith))
+
+  right-step : (l : List ℕ) → (c ≡ end → ⊥) → length l < 7 → step end (gap l) c ≡ step end (digits (gapped l []) 0 0) c
+  right-step l a h = simp (ne-eqb c end a, lt-ltb (length l + 0) 7 (omega arith))
+
+abbrev pub held : Partial → List ℕ
+held x = take (x .count) (x .groups)
+
+module _ {end : ℕ} {s : List ℕ} {i : ℕ} {r : Scanned} where
+  -- ── behind a group ──
+  pub behind-other : {n : Seen} → i < length s → (getD s i 0 ≡ 58 → ⊥) → (getD s i 0 ≡ end → ⊥) → Without (Refused i) r → From end s i (behind n) r
+  behind-other {n} h a b w = refuses h (follow-other end (getD s i 0) n a b) w
+
+  pub behind-ends : {n : Seen} → i < length s → (getD s i 0 ≡ 58 → ⊥) → getD s i 0 ≡ end → Closed i n r → From end s i (behind n) r
+  behind-ends {n} h a b f = closes h (follow-ends end (getD s i 0) n a b) f
+
+  module _ {x : Partial} (sized : Sized x) where
+    pub behind-full : i < length s → getD s i 0 ≡ 58 → x .count ≡ 8 → Without (Refused i) r → From end s i (behind (seenOf x)) r
+    behind-full h a n w = refuses h (follow-full end (getD s i 0) (seenOf x) a (is-full x sized n)) w
+
+    pub behind-colon : i < length s → getD s i 0 ≡ 58 → (x .count ≡ 8 → ⊥) → From end s (i + 1) (colon (seenOf x)) r
+        → From end s i (behind (seenOf x)) r
+    behind-colon h a n f = passes h (follow-more end (getD s i 0) (seenOf x) a (has-room x sized n)) f
+
+    -- ── behind a colon ──
+    pub colon-lone : i < length s → (getD s i 0 ≡ 58 → ⊥) → x .count ≡ 0 → Without (Refused i) r → From end s i (colon (seenOf x)) r
+    colon-lone h a n w = refuses h (lone-step end (getD s i 0) (seenOf x) (none-seen x sized n) a) w
+
+    pub colon-group : i < length s → (getD s i 0 ≡ 58 → ⊥) → (x .count ≡ 0 → ⊥) → From end s i (digits (seenOf x) 0 0) r
+        → From end s i (colon (seenOf x)) r
+    colon-group h a n f =
+        let b = count-length x sized in
+        likewise h (group-step end (getD s i 0) (x .gap) (held x) (omega arith) a) f
+
+    pub colon-twice : i < length s → getD s i 0 ≡ 58 → 0 < x .gap → Without (Refused i) r → From end s i (colon (seenOf x)) r
+    colon-twice h a g w = refuses h (twice-step end (getD s i 0) (x .gap) (held x) g a) w
+
+    pub colon-gap : i < length s → getD s i 0 ≡ 58 → x .gap ≤ 0 → From end s (i + 1) (gap (held x)) r → From end s i (colon (seenOf x)) r
+    colon-gap h a g f = passes h (gap-step end (getD s i 0) (x .gap) (held x) (omega arith) a) f
+
+    -- ── behind "::" ──
+    pub gap-full : i < length s → (getD s i 0 ≡ end → ⊥) → x .count ≡ 7 → Without (Refused i) r → From end s i (gap (held x)) r
+    gap-full h a n w = let b = count-length x sized in refuses h (full-step end (getD s i 0) (held x) a (omega arith)) w
+
+    module _ (few : x .count < 8) {y : Partial} (g : Gapped x y) where
+      pub gap-ends : i < length s → getD s i 0 ≡ end → Closed i (seenOf y) r → From end s i (gap (held x)) r
+      gap-ends h a f = closes h (end-step end (getD s i 0) (held x) a ∙ ap finish (sym (gap-seen x sized few y g))) f
+
+      pub gap-group : i < length s → (getD s i 0 ≡ end → ⊥) → (x .count ≡ 7 → ⊥) → From end s i (digits (seenOf y) 0 0) r
+          → From end s i (gap (held x)) r
+      gap-group h a n f =
+          let b = count-length x sized in
+          likewise h
+          (right-step end (getD s i 0) (held x) a (omega arith)
+          ∙ ap (λ (n : Seen). step end (digits n 0 0) (getD s i 0)) (sym (gap-seen x sized few y g)))
+          f

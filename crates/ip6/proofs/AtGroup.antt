@@ -1,0 +1,60 @@
+-- What `group` may answer, by its tests on the byte at place i, where the machine stands in a group.
+use mathlib.Core.Path.{_≡_, sym, ap, _∙_}
+use mathlib.Core.List.{List}
+use Prim.Native.Nat.{ℕ, zero, suc, _+_, _*_, _^_, _<_}
+use native.Mathlib.Numerals.{add-one}
+use native.Mathlib.Omega.{arith}
+use lib.ListN.{length, getD}
+use borrow.Author.Tests.{lt-ltb, le-ltb, eq-eqb}
+use Rattle.exact.specs.Machine.{dead}
+use Rattle.exact.specs.declared.Scan.the-variants.{Refused}
+use Rattle.ip6.specs.declared.Partial.{Partial}
+use Rattle.ip6.specs.declared.Scanned.{Scanned}
+use Rattle.ip6.specs.Address.{hexOf}
+use Rattle.ip6.specs.Machine.{Seen, digits, behind, inside, follow}
+use Rattle.ip6.specs.Steps.{inside-digit, inside-follow}
+use Rattle.ip6.specs.Partial.{seenOf, Sized, Pushed}
+use Rattle.ip6.specs.Answer.{Without, From}
+use Rattle.ip6.proofs.Seen.{push-seen}
+use Rattle.ip6.proofs.Turn.{refuses, passes, likewise}
+
+-- ── four digits make a number of 16 bits ──
+pub digits-fit : (n v : ℕ) → v < 16 ^ n → n < 4 → v < 4096
+digits-fit zero v h few = omega arith
+digits-fit (suc zero) v h few = omega arith
+digits-fit (suc (suc zero)) v h few = omega arith
+digits-fit (suc (suc (suc zero))) v h few = omega arith
+digits-fit (suc (suc (suc (suc n)))) v h few = absurd (omega arith)
+
+pub digits-more : (n v d : ℕ) → v < 16 ^ n → d < 16 → v * 16 + d < 16 ^ (n + 1)
+digits-more n v d h k = rw add-one (omega arith)
+
+-- ── the answers ──
+inside-none : (end c : ℕ) (p : Seen) (n v : ℕ) → hexOf c ≡ 16 → n ≡ 0 → inside end p n v c ≡ dead
+inside-none end c p n v a z = simp (le-ltb (hexOf c) 16 (omega arith), eq-eqb n 0 z)
+
+inside-long : (end c : ℕ) (p : Seen) (n v : ℕ) → hexOf c < 16 → n ≡ 4 → inside end p n v c ≡ dead
+inside-long end c p n v a z = simp (lt-ltb (hexOf c) 16 a, le-ltb n 4 (omega arith))
+
+module _ {end : ℕ} {s : List ℕ} {i : ℕ} {r : Scanned} where
+  -- no digit
+  pub group-none : {p : Seen} {n v : ℕ} → i < length s → hexOf (getD s i 0) ≡ 16 → n ≡ 0 → Without (Refused i) r → From end s i (digits p n v) r
+  group-none {p} {n} {v} h a z w = refuses h (inside-none end (getD s i 0) p n v a z) w
+
+  -- a fifth digit
+  pub group-long : {p : Seen} {n v : ℕ} → i < length s → hexOf (getD s i 0) < 16 → n ≡ 4 → Without (Refused i) r → From end s i (digits p n v) r
+  group-long {p} {n} {v} h a z w = refuses h (inside-long end (getD s i 0) p n v a z) w
+
+  -- one digit more
+  pub group-digit : {p : Seen} {n v : ℕ} → i < length s → hexOf (getD s i 0) < 16 → n < 4
+      → From end s (i + 1) (digits p (n + 1) (v * 16 + hexOf (getD s i 0))) r → From end s i (digits p n v) r
+  group-digit {p} {n} {v} h a few f = passes h (inside-digit end p n v (getD s i 0) a few) f
+
+  -- the group has ended
+  pub group-ends : {x y : Partial} {n v : ℕ} → Sized x → x .count < 8 → Pushed x v y → i < length s → hexOf (getD s i 0) ≡ 16 → (n ≡ 0 → ⊥)
+      → From end s i (behind (seenOf y)) r → From end s i (digits (seenOf x) n v) r
+  group-ends {x} {y} {n} {v} sized few p h a some f =
+      likewise h
+      (inside-follow end (seenOf x) n v (getD s i 0) (λ d. omega arith) some
+      ∙ ap (λ (q : Seen). follow end q (getD s i 0)) (sym (push-seen x sized few v y p)))
+      f

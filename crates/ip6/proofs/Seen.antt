@@ -1,0 +1,111 @@
+-- What the machine has seen where the code holds a partial address: one group more, "::", and the tests that the code makes.
+use mathlib.Core.Path.{_≡_, refl, sym, ap, ap₂, _∙_}
+use mathlib.Core.Bool.{true, false}
+use mathlib.Core.List.{List, [], _∷_, _++_}
+use Prim.Native.Nat.{ℕ, zero, suc, _+_, _-_, _≤_, _<_}
+use native.Mathlib.Numerals.{add-one}
+use native.Mathlib.Omega.{arith}
+use lib.ListN.{length, take, drop, replicate, set, length-take, length-drop, length-append, length-set, drop-of-length-le}
+use lib.Seq.{drop-set-lt, drop-drop, take-suc-set, take-append-le, drop-append-le, getD-set-same, getD-set-other, take-at}
+use borrow.Author.Tests.{lt-ltb, le-ltb}
+use Rattle.ip6.specs.declared.Partial.{Partial}
+use Rattle.ip6.specs.Machine.{plain, gapped, push, room}
+use Rattle.ip6.specs.Partial.{seenAt, seenOf, Sized, Pushed, Gapped}
+use Rattle.ip6.proofs.Spread.{count-length}
+
+-- ── the tests ──
+module _ (x : Partial) (h : Sized x) where
+  abbrev held : List ℕ
+  held = take (x .count) (x .groups)
+
+  room-at : (g n : ℕ) (l : List ℕ) → length l ≡ n → g ≤ n → n < 8 → room (seenAt g l) ≡ true
+  room-at zero n l e m f = lt-ltb (length l) 8 (omega arith)
+  room-at (suc g) n l e m f =
+      let a = length-take g l in
+      let b = length-drop (suc g) l in
+      lt-ltb (length (take g l) + length (drop (suc g) l)) 7 (omega arith)
+
+  full-at : (g n : ℕ) (l : List ℕ) → length l ≡ n → g ≤ n → 8 ≤ n → room (seenAt g l) ≡ false
+  full-at zero n l e m f = le-ltb (length l) 8 (omega arith)
+  full-at (suc g) n l e m f =
+      let a = length-take g l in
+      let b = length-drop (suc g) l in
+      le-ltb (length (take g l) + length (drop (suc g) l)) 7 (omega arith)
+
+  pub has-room : (x .count ≡ 8 → ⊥) → room (seenOf x) ≡ true
+  has-room n = room-at (x .gap) (x .count) held (count-length x h) (h .within) (let a = h .most in omega arith)
+
+  pub is-full : x .count ≡ 8 → room (seenOf x) ≡ false
+  is-full n = full-at (x .gap) (x .count) held (count-length x h) (h .within) (omega arith)
+
+  pub none-seen : x .count ≡ 0 → seenOf x ≡ plain []
+  none-seen n = let a = h .within in let e : x .gap ≡ 0 = omega arith in rw (e, n)
+
+  pub plain-seen : x .gap ≡ 0 → seenOf x ≡ plain held
+  plain-seen e = rw e
+
+-- ── one group more ──
+push-at : (g v : ℕ) (l : List ℕ) → g ≤ length l → seenAt g (l ++ v ∷ []) ≡ push (seenAt g l) v
+push-at zero v l m = refl
+push-at (suc g) v l m = ap₂ gapped (take-append-le g l (v ∷ []) (omega arith)) (drop-append-le (suc g) l (v ∷ []) m)
+
+zeros-less : (m : ℕ) → _≡_ {A = List ℕ} (drop 1 (replicate m 0)) (replicate (m - 1) 0)
+zeros-less zero = refl
+zeros-less (suc m) = let e : m ≡ suc m - 1 = omega arith in ap (λ (n : ℕ). replicate n 0) e
+
+module _ (x : Partial) (h : Sized x) (room-here : x .count < 8) where
+  rest-more : (v : ℕ) → drop (x .count + 1) (set (x .groups) (x .count) v) ≡ replicate (8 - (x .count + 1)) 0
+  rest-more v =
+      let e : 8 - x .count - 1 ≡ 8 - (x .count + 1) = omega arith in
+      drop-set-lt (x .count + 1) (x .groups) (x .count) v (omega arith)
+      ∙ sym (drop-drop 1 (x .count) (x .groups))
+      ∙ ap (λ (l : List ℕ). drop 1 l) (h .rest)
+      ∙ zeros-less (8 - x .count)
+      ∙ ap (λ (n : ℕ). replicate n 0) e
+
+  held-more : (v : ℕ) → take (x .count + 1) (set (x .groups) (x .count) v) ≡ take (x .count) (x .groups) ++ v ∷ []
+  held-more v = let a = h .eight in rw add-one (take-suc-set (x .groups) (x .count) v (omega arith))
+
+  module _ (v : ℕ) (r : Partial) (p : Pushed x v r) where
+    pub push-seen : seenOf r ≡ push (seenOf x) v
+    push-seen =
+        let a = count-length x h in
+        let b = h .within in
+        rw (p .groups, p .count, p .gap) (ap (seenAt (x .gap)) (held-more v) ∙ push-at (x .gap) v (take (x .count) (x .groups)) (omega arith))
+
+    pub push-sized : Sized r
+    push-sized =
+        record {
+          eight = rw (p .groups) (length-set (x .groups) (x .count) v ∙ h .eight);
+          most = let a = p .count in omega arith;
+          within = let a = p .count in let b = p .gap in let c = h .within in omega arith;
+          rest = rw (p .groups, p .count) (rest-more v);
+          zero-there = λ g e.
+              let b = p .gap in
+              let c = h .within in
+              rw (p .groups) (getD-set-other (x .groups) (x .count) g v 0 (λ z. omega arith) ∙ h .zero-there g (omega arith));
+        }
+
+  module _ (r : Partial) (p : Gapped x r) where
+    pub gap-seen : seenOf r ≡ gapped (take (x .count) (x .groups)) []
+    gap-seen =
+        let a = count-length x h in
+        let held : List ℕ = take (x .count) (x .groups) in
+        let groups : take (r .count) (r .groups) ≡ held ++ 0 ∷ [] = rw (p .groups, p .count) (held-more 0) in
+        ap₂ seenAt (p .gap ∙ add-one (x .count)) groups
+        ∙ ap₂ gapped (take-at held (0 ∷ []) (x .count) a)
+        (drop-of-length-le (held ++ 0 ∷ []) {i = suc (x .count)} (simp length-append (omega arith)))
+
+    pub gap-sized : Sized r
+    gap-sized =
+        record {
+          eight = rw (p .groups) (length-set (x .groups) (x .count) 0 ∙ h .eight);
+          most = let a = p .count in omega arith;
+          within = let a = p .count in let b = p .gap in omega arith;
+          rest = rw (p .groups, p .count) (rest-more 0);
+          zero-there = λ g e.
+              let a = p .gap in
+              let b = h .eight in
+              let last : g ≡ x .count = omega arith in
+              rw (p .groups, last) (getD-set-same (x .groups) (x .count) 0 0 (omega arith));
+        }

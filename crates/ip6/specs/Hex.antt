@@ -1,0 +1,71 @@
+-- For proofs. What the value of a hex digit says of the byte.
+use mathlib.Core.Path.{_≡_, refl}
+use mathlib.Core.Logic.{_⊎_, inl, inr, ⊎-elim}
+use mathlib.Core.Bool.{Bool, true, false}
+use Prim.Native.Nat.{ℕ, _+_, _-_, _≤_, _<_}
+use native.Mathlib.Omega.{arith}
+use lib.Dec.{leb}
+use borrow.Author.Tests.{leb-true, le-leb, lt-leb}
+use Rattle.exact.specs.Pick.{pick, pick-by}
+use Rattle.ip6.specs.Address.{among, hexOf}
+
+among-high : (a z c : ℕ) → pick (leb a c) (leb c z) false ≡ true → c ≤ z
+among-high a z c =
+    pick-by (λ (b : Bool). b ≡ true → c ≤ z) (leb a c) (λ p q. leb-true c z q) (λ p q. let w : _≡_ {A = ℕ} 0 1 = cc in omega arith)
+
+-- a hex digit is a byte
+pub hex-byte : (c : ℕ) → hexOf c < 16 → c < 256
+unfolding hexOf
+hex-byte c =
+    let P : ℕ → Type 0 = λ v. v < 16 → c < 256 in
+    pick-by P (among "0" "9" c) (λ t h. let w = among-high 48 57 c t in omega arith)
+    (λ _.
+    pick-by P (among "a" "f" c) (λ t h. let w = among-high 97 102 c t in omega arith)
+    (λ _. pick-by P (among "A" "F" c) (λ t h. let w = among-high 65 70 c t in omega arith) (λ t h. omega arith)))
+
+pub hex-most : (c : ℕ) → hexOf c ≤ 16
+unfolding hexOf
+hex-most c =
+    let P : ℕ → Type 0 = λ v. v ≤ 16 in
+    pick-by P (among "0" "9" c) (λ t. let w = among-high 48 57 c t in omega arith)
+    (λ _.
+    pick-by P (among "a" "f" c) (λ t. let w = among-high 97 102 c t in omega arith)
+    (λ _. pick-by P (among "A" "F" c) (λ t. let w = among-high 65 70 c t in omega arith) (λ t. omega arith)))
+
+-- a byte outside the characters from a to z
+abbrev pub Outside : ℕ → ℕ → ℕ → Type 0
+Outside a z c = (c < a) ⊎ (z < c)
+
+among-yes : (a z c : ℕ) → a ≤ c → c ≤ z → pick (leb a c) (leb c z) false ≡ true
+among-yes a z c h k = simp (le-leb a c h, le-leb c z k)
+
+among-no : (a z c : ℕ) → Outside a z c → pick (leb a c) (leb c z) false ≡ false
+among-no a z c =
+    ⊎-elim (λ h. simp (lt-leb a c h))
+    (λ h. pick-by (λ (b : Bool). b ≡ false) (leb a c) (λ t. lt-leb c z h) (λ t. refl))
+
+module _ (c : ℕ) where
+  pub hex-decimal : 48 ≤ c → c ≤ 57 → hexOf c ≡ c - 48
+  unfolding hexOf
+  hex-decimal h k = simp (among-yes 48 57 c h k)
+
+  pub hex-lower : 97 ≤ c → c ≤ 102 → hexOf c ≡ c - 97 + 10
+  unfolding hexOf
+  hex-lower h k = simp (among-no 48 57 c (inr (omega arith)), among-yes 97 102 c h k)
+
+  pub hex-upper : 65 ≤ c → c ≤ 70 → hexOf c ≡ c - 65 + 10
+  unfolding hexOf
+  hex-upper h k =
+      simp (among-no 48 57 c (inr (omega arith)), among-no 97 102 c (inl (omega arith)), among-yes 65 70 c h k)
+
+  pub hex-none : Outside 48 57 c → Outside 97 102 c → Outside 65 70 c → hexOf c ≡ 16
+  unfolding hexOf
+  hex-none x y z = simp (among-no 48 57 c x, among-no 97 102 c y, among-no 65 70 c z)
+
+pub hex-colon : hexOf 58 ≡ 16
+unfolding hexOf
+hex-colon = refl
+
+pub hex-zero : hexOf 48 ≡ 0
+unfolding hexOf
+hex-zero = refl

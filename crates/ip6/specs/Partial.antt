@@ -1,0 +1,40 @@
+-- For proofs. What a partial address of the code is to the machine, and what the functions on it do.
+use mathlib.Core.Path.{_≡_}
+use mathlib.Core.List.{List, _++_}
+use Prim.Native.Nat.{ℕ, zero, suc, _+_, _-_, _≤_}
+use lib.ListN.{length, take, drop, getD, set, replicate}
+use Rattle.ip6.specs.declared.Partial.{Partial}
+use Rattle.ip6.specs.Machine.{Seen, plain, gapped}
+
+-- the groups l, of which the first `gap` end with "::"
+abbrev pub seenAt : ℕ → List ℕ → Seen
+seenAt zero l = plain l
+seenAt (suc g) l = gapped (take g l) (drop (suc g) l)
+
+abbrev pub seenOf : Partial → Seen
+seenOf x = seenAt (x .gap) (take (x .count) (x .groups))
+
+pub record Sized (x : Partial) : Type 0 where
+  pub eight : length (x .groups) ≡ 8
+  pub most : x .count ≤ 8
+  pub within : x .gap ≤ x .count
+  pub rest : drop (x .count) (x .groups) ≡ replicate (8 - x .count) 0
+  -- the group that "::" counts as
+  pub zero-there : (g : ℕ) → x .gap ≡ suc g → getD (x .groups) g 0 ≡ 0
+
+pub record Pushed (x : Partial) (v : ℕ) (r : Partial) : Type 0 where
+  pub groups : r .groups ≡ set (x .groups) (x .count) v
+  pub count : r .count ≡ x .count + 1
+  pub gap : r .gap ≡ x .gap
+
+pub record Gapped (x r : Partial) : Type 0 where
+  pub groups : r .groups ≡ set (x .groups) (x .count) 0
+  pub count : r .count ≡ x .count + 1
+  pub gap : r .gap ≡ x .count + 1
+
+-- the eight groups that n groups stand for, where zeros come behind the first i
+abbrev pub spreadAt : List ℕ → ℕ → ℕ → List ℕ
+spreadAt groups n i = take i groups ++ replicate (8 - n) 0 ++ drop i (take n groups)
+
+abbrev pub spread : Partial → List ℕ
+spread x = spreadAt (x .groups) (x .count) (x .gap)
