@@ -5,7 +5,7 @@ use Prim.Native.Nat.{ℕ, _+_, _-_, _≤_}
 use native.Mathlib.Omega.{arith}
 use lib.ListN.{length, take, drop}
 use Rattle.exact.specs.Claim.{Verdict, accepted, more, refused}
-use Rattle.exact.specs.Field.{shift}
+use Rattle.exact.specs.Field.{shift, after}
 use Rattle.exact.specs.Parser.{Parser, _then_, tail-all}
 use Rattle.exact.specs.Stage.{stage-more, stage-refused, stage-accepted}
 use Rattle.exact.specs.Told.{told}
@@ -38,6 +38,23 @@ module _ {A : Type 0} (P : Parser A) (Q : A → Parser Header) (s : List ℕ) (a
   pub as-accepted : {r : Reading} (a : A) (n : ℕ) → accepted a n ≡ P .verdict (drop at s) → Answers s (shift (at + n) (Q a .verdict (drop (at + n) s))) r → Stage r
   as-accepted a n e h = answers-as h (stage-accepted P Q s at a n _ e refl)
 
+-- the first stage, which stands at the first byte
+module _ {A : Type 0} (P : Parser A) (Q : A → Parser Header) (s : List ℕ) where
+  abbrev next : Verdict A → Verdict Header
+  next v = after v (λ a t. Q a .verdict t) s
+
+  pub first-more : {r : Reading} → more ≡ P .verdict s → ((t : List ℕ) → Answers t more r) → Answers s ((P then Q) .verdict s) r
+  first-more e a = answers-as (a s) (ap next e)
+
+  pub first-refused : {r : Reading} (k p : ℕ) → refused k p ≡ P .verdict s → ((t : List ℕ) → Answers t (refused k p) r) → Answers s ((P then Q) .verdict s) r
+  first-refused k p e a = answers-as (a s) (ap next e)
+
+  pub first-accepted : {r : Reading} (a : A) (n : ℕ) → accepted a n ≡ P .verdict s → Answers s (shift n (Q a .verdict (drop n s))) r → Answers s ((P then Q) .verdict s) r
+  first-accepted a n e h = answers-as h (ap next e)
+
 -- the end of a line whose header says x
 pub as-line : (s : List ℕ) (n : ℕ) (x : Record) → Answers s (shift n (accepted (lined x) 0)) (record { verdict = Accepted n 1; «record» = x })
 as-line s n x = let e : n ≡ n + 0 = omega arith in record { told = ap (λ (m : ℕ). accepted (lined x) m) e; unused = tt }
+
+pub as-said : (s : List ℕ) (n : ℕ) {x y : Record} → y ≡ x → Answers s (shift n (accepted (lined x) 0)) (record { verdict = Accepted n 1; «record» = y })
+as-said s n {x} e = subst (λ (y : Record). Answers s (shift n (accepted (lined x) 0)) (record { verdict = Accepted n 1; «record» = y })) (sym e) (as-line s n x)

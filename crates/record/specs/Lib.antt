@@ -1,2 +1,4 @@
 pub mod Kinds
 pub mod Records
+pub mod Unused
+pub mod UnusedLaws

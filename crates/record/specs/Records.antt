@@ -36,3 +36,12 @@ pub record Clean (r : Record) : Type 0 where
   pub destination : drop (addressLength (r .kind)) (r .destination) ≡ replicate (108 - addressLength (r .kind)) 0
   pub «source_port» : PortFits (r .kind) (r .«source_port»)
   pub «destination_port» : PortFits (r .kind) (r .«destination_port»)
+
+-- what holds of every record in memory: two arrays of 108 bytes, and ports of 16 bits
+pub record Sized (r : Record) : Type 0 where
+  pub source : length (r .source) ≡ 108
+  pub destination : length (r .destination) ≡ 108
+  pub source-bytes : AllBytes (r .source)
+  pub destination-bytes : AllBytes (r .destination)
+  pub source-port : r .«source_port» < 65536
+  pub destination-port : r .«destination_port» < 65536

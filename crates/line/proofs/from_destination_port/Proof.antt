@@ -1,0 +1,114 @@
+-- The port is a decimal field, and behind it the line feed ends the line.
+use Prim.Native.Nat.{ℕ, _+_, _≤_}
+use mathlib.Core.Path.{_≡_, subst}
+use mathlib.Core.List.{List}
+use native.Mathlib.Omega.{arith}
+use lib.ListN.{length, drop, take}
+use Rattle.exact.specs.Field.{shift}
+use Rattle.exact.specs.Told.{told}
+use Rattle.exact.specs.Stage.{stage-inside, stage-member, stage-place}
+use Rattle.exact.specs.Parser.{Parser}
+use Rattle.exact.specs.declared.Scan.{Scan}
+use Rattle.record.specs.declared.Record.{Record}
+use Rattle.record.specs.Records.{recordOf}
+use Rattle.header.specs.Header.{Header}
+use Rattle.header.specs.LineFields.{lined, lineFeed, destinationPort, sourcePort, fromDestinationPort}
+use Rattle.answer.specs.Answers.{Answers}
+use Rattle.line.specs.Families.{kindOf, width}
+use Rattle.answer.specs.StageLaws.{said, as-more, as-refused, as-accepted}
+use borrow.Author.Needs.{needs}
+use Rattle.line.proofs.from_destination_port.Statement.{statement}
+use Rattle.line.proofs.from_destination_port.Tie as tie
+
+module _ (c : tie.After-decimal) where
+  abbrev start : tie.Start
+  start = c .before .before .before
+
+  abbrev text : List ℕ
+  text = start .args .s .now
+
+  abbrev at : ℕ
+  at = start .args .at
+
+  abbrev rest : ℕ → Parser Header
+  rest q =
+      lineFeed (lined (recordOf (kindOf (start .args .six)) (take (width (start .args .six)) (start .args .from)) (take (width (start .args .six)) (start .args .to)) (start .args .p) q))
+
+  found : (x : Scan) → c .decimal .result ≡ x → told 4 x ≡ destinationPort .verdict (drop at text)
+  found x e = said 4 (destinationPort .verdict) text at e (c .decimal .ensures 4)
+
+sub-decimal : tie.Need-sub-decimal
+sub-decimal c = search needs
+
+part-decimal-start : tie.Need-part-decimal-start
+part-decimal-start c = search needs
+
+part-decimal-end : tie.Need-part-decimal-end
+part-decimal-end c = search needs
+
+decimal-requires : tie.Need-decimal-requires
+decimal-requires c κs = search needs
+
+enum-told : tie.Need-enum-told
+enum-told c = search needs
+
+more-requires : tie.Need-more-requires
+more-requires c κs = search needs
+
+enum-known-place : tie.Need-enum-known-place
+enum-known-place c = search needs
+
+add-refused : tie.Need-add-refused
+add-refused c = let ran = c .before .before .before in let h = stage-place destinationPort (text ran) (at ran) (start ran .pre) 4 _ (found ran _ (c .before .place .given .1)) in omega arith
+
+refused-requires : tie.Need-refused-requires
+refused-requires c κs = search needs
+
+enum-known-q : tie.Need-enum-known-q
+enum-known-q c = search needs
+
+add-line-feed : tie.Need-add-line-feed
+add-line-feed c = let ran = c .before .before .before in let h = stage-inside destinationPort (text ran) (at ran) (start ran .pre) _ _ (found ran _ (c .before .q .given .1)) in omega arith
+
+cast-tcp-record : tie.Need-cast-tcp-record
+cast-tcp-record c = let ran = c .before .before .before in let h = stage-member destinationPort (text ran) (at ran) (start ran .pre) _ _ (found ran _ (c .before .q .given .1)) .1 .whole .fits in omega arith
+
+tcp-record-requires : tie.Need-tcp-record-requires
+tcp-record-requires c κs = search needs
+
+line-feed-requires : tie.Need-line-feed-requires
+line-feed-requires c κs = let ran = c .before .before .before .before in stage-inside destinationPort (text ran) (at ran) (start ran .pre) _ _ (found ran _ (c .before .before .q .given .1))
+
+returns : tie.Need-returns
+returns c = let ran = c .before .before .before in as-more destinationPort (rest ran) (text ran) (at ran) (found ran _ (c .before .enum-told .given .1)) (c .more .ensures)
+
+returns-2 : tie.Need-returns-2
+returns-2 c = let ran = c .before .before .before .before in as-refused destinationPort (rest ran) (text ran) (at ran) 4 _ (found ran _ (c .before .before .place .given .1)) (c .refused .ensures)
+
+returns-3 : tie.Need-returns-3
+returns-3 c =
+    let ran = c .before .before .before .before .before in
+    as-accepted destinationPort (rest ran) (text ran) (at ran) _ _ (found ran _ (c .before .before .before .q .given .1))
+    (subst (λ (x : Record). Answers (text ran) (shift (at ran + c .before .before .before .q .given .0 .1 .0) (lineFeed (lined x) .verdict (drop (at ran + c .before .before .before .q .given .0 .1 .0) (text ran)))) (c .line-feed .result)) (c .before .tcp-record .ensures) (c .line-feed .ensures))
+
+pub from-destination-port-spec : {M : Type 1} → statement M
+from-destination-port-spec =
+    tie.close
+    (tie.spec
+    sub-decimal
+    part-decimal-start
+    part-decimal-end
+    decimal-requires
+    enum-told
+    more-requires
+    enum-known-place
+    add-refused
+    refused-requires
+    enum-known-q
+    add-line-feed
+    cast-tcp-record
+    tcp-record-requires
+    line-feed-requires
+    returns
+    returns-2
+    returns-3)

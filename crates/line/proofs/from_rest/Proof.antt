@@ -1,0 +1,99 @@
+-- The end of the line is a field, and behind it the header is said.
+use Prim.Native.Nat.{ℕ, _+_, _≤_, _<_}
+use mathlib.Core.Path.{_≡_}
+use mathlib.Core.List.{List}
+use native.Mathlib.Omega.{arith}
+use lib.ListN.{length, drop}
+use Rattle.exact.specs.Told.{told}
+use Rattle.exact.specs.Stage.{stage-inside, stage-place}
+use Rattle.exact.specs.Parser.{Parser, just}
+use Rattle.exact.specs.declared.Scan.{Scan}
+use Rattle.header.specs.Header.{Header}
+use Rattle.record.specs.declared.Kind.the-variants.{Unspecified}
+use Rattle.record.specs.Records.{bare}
+use Rattle.header.specs.LineFields.{lined, restField}
+use Rattle.answer.specs.StageLaws.{said, as-more, as-refused, as-accepted, as-said}
+use borrow.Author.Needs.{needs}
+use Rattle.line.proofs.from_rest.Statement.{statement}
+use Rattle.line.proofs.from_rest.Tie as tie
+
+module _ (c : tie.After-line-end) where
+  abbrev start : tie.Start
+  start = c .before .before .before
+
+  abbrev text : List ℕ
+  text = start .args .s .now
+
+  abbrev at : ℕ
+  at = start .args .at
+
+  abbrev rest : ℕ → Parser Header
+  rest x = just (lined (bare Unspecified))
+
+  found : (x : Scan) → c .line-end .result ≡ x → told 5 x ≡ restField .verdict (drop at text)
+  found x e = said 5 (restField .verdict) text at e (c .line-end .ensures 5)
+
+sub-line-end : tie.Need-sub-line-end
+sub-line-end c = search needs
+
+part-line-end-start : tie.Need-part-line-end-start
+part-line-end-start c = search needs
+
+part-line-end-end : tie.Need-part-line-end-end
+part-line-end-end c = search needs
+
+line-end-requires : tie.Need-line-end-requires
+line-end-requires c κs = search needs
+
+enum-told : tie.Need-enum-told
+enum-told c = search needs
+
+more-requires : tie.Need-more-requires
+more-requires c κs = search needs
+
+enum-known-place : tie.Need-enum-known-place
+enum-known-place c = search needs
+
+add-refused : tie.Need-add-refused
+add-refused c = let ran = c .before .before .before in let h = stage-place restField (text ran) (at ran) (start ran .pre) 5 _ (found ran _ (c .before .place .given .1)) in omega arith
+
+refused-requires : tie.Need-refused-requires
+refused-requires c κs = search needs
+
+enum-known-n : tie.Need-enum-known-n
+enum-known-n c = search needs
+
+add-t13 : tie.Need-add-t13
+add-t13 c = let ran = c .before .before .before in let h = stage-inside restField (text ran) (at ran) (start ran .pre) _ _ (found ran _ (c .before .n .given .1)) in omega arith
+
+blank-requires : tie.Need-blank-requires
+blank-requires c κs = search needs
+
+returns : tie.Need-returns
+returns c = let ran = c .before .before .before in as-more restField (rest ran) (text ran) (at ran) (found ran _ (c .before .enum-told .given .1)) (c .more .ensures)
+
+returns-2 : tie.Need-returns-2
+returns-2 c = let ran = c .before .before .before .before in as-refused restField (rest ran) (text ran) (at ran) 5 _ (found ran _ (c .before .before .place .given .1)) (c .refused .ensures)
+
+returns-3 : tie.Need-returns-3
+returns-3 c = let ran = c .before .before .before .before in as-accepted restField (rest ran) (text ran) (at ran) _ _ (found ran _ (c .before .before .n .given .1)) (as-said (text ran) _ (c .blank .ensures))
+
+pub from-rest-spec : {M : Type 1} → statement M
+from-rest-spec =
+    tie.close
+    (tie.spec
+    sub-line-end
+    part-line-end-start
+    part-line-end-end
+    line-end-requires
+    enum-told
+    more-requires
+    enum-known-place
+    add-refused
+    refused-requires
+    enum-known-n
+    add-t13
+    blank-requires
+    returns
+    returns-2
+    returns-3)

@@ -1,0 +1,103 @@
+-- The address is a field of its family, and the next field follows.
+use Prim.Native.Nat.{ℕ, _+_, _≤_}
+use mathlib.Core.Path.{_≡_}
+use mathlib.Core.Bool.{Bool}
+use mathlib.Core.List.{List}
+use native.Mathlib.Omega.{arith}
+use lib.ListN.{length, drop, take}
+use Rattle.exact.specs.Told.{told}
+use Rattle.exact.specs.Stage.{stage-inside, stage-member, stage-place}
+use Rattle.exact.specs.Parser.{Parser}
+use Rattle.exact.specs.declared.Scan.{Scan}
+use Rattle.header.specs.Header.{Header}
+use Rattle.header.specs.LineFields.{sourcePort, fromDestinationPort, fromSourcePort, fromDestination}
+use Rattle.line.specs.Families.{kindOf, width, field, toldBytes}
+use Rattle.line.specs.AddressLaws.{said-found}
+use Rattle.answer.specs.StageLaws.{said, as-more, as-refused, as-accepted}
+use borrow.Author.Needs.{needs}
+use Rattle.line.proofs.from_source.Statement.{statement}
+use Rattle.line.proofs.from_source.Tie as tie
+
+module _ (c : tie.After-address) where
+  abbrev start : tie.Start
+  start = c .before .before .before
+
+  abbrev text : List ℕ
+  text = start .args .s .now
+
+  abbrev at : ℕ
+  at = start .args .at
+
+  abbrev six : Bool
+  six = start .args .six
+
+  abbrev rest : List ℕ → Parser Header
+  rest = fromDestination (kindOf six) (field six)
+
+  found : (x : Scan) → c .address .result .scan ≡ x → toldBytes (width six) x (c .address .result) ≡ field six .verdict (drop at text)
+  found x e = said-found six text at (c .address .result) e (c .address .ensures)
+
+sub-address : tie.Need-sub-address
+sub-address c = search needs
+
+part-address-start : tie.Need-part-address-start
+part-address-start c = search needs
+
+part-address-end : tie.Need-part-address-end
+part-address-end c = search needs
+
+address-requires : tie.Need-address-requires
+address-requires c κs = search needs
+
+enum-told : tie.Need-enum-told
+enum-told c = search needs
+
+more-requires : tie.Need-more-requires
+more-requires c κs = search needs
+
+enum-known-scan : tie.Need-enum-known-scan
+enum-known-scan c = search needs
+
+add-refused : tie.Need-add-refused
+add-refused c = let ran = c .before .before .before .before in let h = stage-place (field (six ran)) (text ran) (at ran) (start ran .pre) 3 _ (found ran _ (c .before .scan .given .1)) in omega arith
+
+refused-requires : tie.Need-refused-requires
+refused-requires c κs = search needs
+
+enum-known-scan-2 : tie.Need-enum-known-scan-2
+enum-known-scan-2 c = search needs
+
+add-from-destination : tie.Need-add-from-destination
+add-from-destination c = let ran = c .before .before .before .before in let h = stage-inside (field (six ran)) (text ran) (at ran) (start ran .pre) _ _ (found ran _ (c .before .scan2 .given .1)) in omega arith
+
+from-destination-requires : tie.Need-from-destination-requires
+from-destination-requires c κs = let ran = c .before .before .before .before in stage-inside (field (six ran)) (text ran) (at ran) (start ran .pre) _ _ (found ran _ (c .before .scan2 .given .1))
+
+returns : tie.Need-returns
+returns c = let ran = c .before .before .before .before in as-more (field (six ran)) (rest ran) (text ran) (at ran) (found ran _ (c .before .enum-told .given .1)) (c .more .ensures)
+
+returns-2 : tie.Need-returns-2
+returns-2 c = let ran = c .before .before .before .before .before in as-refused (field (six ran)) (rest ran) (text ran) (at ran) 3 _ (found ran _ (c .before .before .scan .given .1)) (c .refused .ensures)
+
+returns-3 : tie.Need-returns-3
+returns-3 c = let ran = c .before .before .before .before .before in as-accepted (field (six ran)) (rest ran) (text ran) (at ran) _ _ (found ran _ (c .before .before .scan2 .given .1)) (c .from-destination .ensures)
+
+pub from-source-spec : {M : Type 1} → statement M
+from-source-spec =
+    tie.close
+    (tie.spec
+    sub-address
+    part-address-start
+    part-address-end
+    address-requires
+    enum-told
+    more-requires
+    enum-known-scan
+    add-refused
+    refused-requires
+    enum-known-scan-2
+    add-from-destination
+    from-destination-requires
+    returns
+    returns-2
+    returns-3)

@@ -1,0 +1,70 @@
+-- "PROXY " is a literal field, and the word follows.
+use Prim.Native.Nat.{ℕ}
+use mathlib.Core.Path.{_≡_, sym, ap, _∙_}
+use mathlib.Core.List.{List}
+use Rattle.exact.specs.Claim.{accepted}
+use Rattle.exact.specs.Parser.{reach-le}
+use Rattle.exact.specs.Told.{told}
+use Rattle.exact.specs.declared.Scan.{Scan}
+use Rattle.header.specs.LineFields.{proxyWord}
+use Rattle.answer.specs.StageLaws.{first-more, first-refused, first-accepted}
+use Rattle.line.specs.Choices.{words}
+use borrow.Author.Needs.{needs}
+use Rattle.line.proofs.line.Statement.{statement}
+use Rattle.line.proofs.line.Tie as tie
+
+module _ (c : tie.After-literal) where
+  abbrev text : List ℕ
+  text = c .before .before .before .args .s .now
+
+  found : (x : Scan) → c .literal .result ≡ x → told 1 x ≡ proxyWord .verdict text
+  found x e = ap (told 1) (sym e) ∙ c .literal .ensures 1
+
+slice-aggregate-literal : tie.Need-slice-aggregate-literal
+slice-aggregate-literal c = search needs
+
+literal-requires : tie.Need-literal-requires
+literal-requires c κs = search needs
+
+enum-told : tie.Need-enum-told
+enum-told c = search needs
+
+more-requires : tie.Need-more-requires
+more-requires c κs = search needs
+
+enum-known-place : tie.Need-enum-known-place
+enum-known-place c = search needs
+
+refused-requires : tie.Need-refused-requires
+refused-requires c κs = search needs
+
+enum-known-n : tie.Need-enum-known-n
+enum-known-n c = search needs
+
+from-word-requires : tie.Need-from-word-requires
+from-word-requires c κs = let ran = c .before .before .before in reach-le proxyWord (text ran) (accepted _ _) (found ran _ (c .before .n .given .1))
+
+returns : tie.Need-returns
+returns c = let ran = c .before .before .before in first-more proxyWord (λ x. words) (text ran) (found ran _ (c .before .enum-told .given .1)) (c .more .ensures)
+
+returns-2 : tie.Need-returns-2
+returns-2 c = let ran = c .before .before .before .before in first-refused proxyWord (λ x. words) (text ran) 1 _ (found ran _ (c .before .before .place .given .1)) (c .refused .ensures)
+
+returns-3 : tie.Need-returns-3
+returns-3 c = let ran = c .before .before .before .before in first-accepted proxyWord (λ x. words) (text ran) _ _ (found ran _ (c .before .before .n .given .1)) (c .from-word .ensures)
+
+pub line-spec : {M : Type 1} → statement M
+line-spec =
+    tie.close
+    (tie.spec
+    slice-aggregate-literal
+    literal-requires
+    enum-told
+    more-requires
+    enum-known-place
+    refused-requires
+    enum-known-n
+    from-word-requires
+    returns
+    returns-2
+    returns-3)

@@ -1,0 +1,95 @@
+-- The LF is a literal field, and behind it the header is said.
+use Prim.Native.Nat.{ℕ, _+_, _≤_}
+use mathlib.Core.Path.{_≡_}
+use mathlib.Core.List.{List}
+use native.Mathlib.Omega.{arith}
+use lib.ListN.{length, drop}
+use Rattle.exact.specs.Claim.{accepted, more, refused}
+use Rattle.exact.specs.Told.{told}
+use Rattle.exact.specs.Stage.{stage-inside, stage-place}
+use Rattle.exact.specs.Parser.{Parser, just}
+use Rattle.header.specs.Header.{Header}
+use Rattle.exact.specs.declared.Scan.{Scan}
+use Rattle.header.specs.LineFields.{lined, lfField}
+use Rattle.answer.specs.StageLaws.{said, as-more, as-refused, as-accepted, as-line}
+use borrow.Author.Needs.{needs}
+use Rattle.line.proofs.line_feed.Statement.{statement}
+use Rattle.line.proofs.line_feed.Tie as tie
+
+module _ (c : tie.After-literal) where
+  abbrev text : List ℕ
+  text = c .before .before .before .before .args .s .now
+
+  abbrev at : ℕ
+  at = c .before .before .before .before .args .at
+
+  abbrev says : ℕ → Parser Header
+  says x = just (lined (c .before .before .before .before .args .connection))
+
+  found : (x : Scan) → c .literal .result ≡ x → told 5 x ≡ lfField .verdict (drop at text)
+  found x e = said 5 (lfField .verdict) text at e (c .literal .ensures 5)
+
+sub-literal : tie.Need-sub-literal
+sub-literal c = search needs
+
+part-literal-start : tie.Need-part-literal-start
+part-literal-start c = search needs
+
+part-literal-end : tie.Need-part-literal-end
+part-literal-end c = search needs
+
+slice-aggregate-literal : tie.Need-slice-aggregate-literal
+slice-aggregate-literal c = search needs
+
+literal-requires : tie.Need-literal-requires
+literal-requires c κs = search needs
+
+enum-told : tie.Need-enum-told
+enum-told c = search needs
+
+more-requires : tie.Need-more-requires
+more-requires c κs = search needs
+
+enum-known-place : tie.Need-enum-known-place
+enum-known-place c = search needs
+
+add-refused : tie.Need-add-refused
+add-refused c = let ran = c .before .before .before in let h = stage-place lfField (text ran) (at ran) (ran .before .before .before .before .pre) 5 _ (found ran _ (c .before .place .given .1)) in omega arith
+
+refused-requires : tie.Need-refused-requires
+refused-requires c κs = search needs
+
+enum-known-n : tie.Need-enum-known-n
+enum-known-n c = search needs
+
+add-t17 : tie.Need-add-t17
+add-t17 c = let ran = c .before .before .before in let h = stage-inside lfField (text ran) (at ran) (ran .before .before .before .before .pre) _ _ (found ran _ (c .before .n .given .1)) in omega arith
+
+returns : tie.Need-returns
+returns c = let ran = c .before .before .before in as-more lfField (says ran) (text ran) (at ran) (found ran _ (c .before .enum-told .given .1)) (c .more .ensures)
+
+returns-2 : tie.Need-returns-2
+returns-2 c = let ran = c .before .before .before .before in as-refused lfField (says ran) (text ran) (at ran) 5 _ (found ran _ (c .before .before .place .given .1)) (c .refused .ensures)
+
+returns-3 : tie.Need-returns-3
+returns-3 c = let ran = c .before .before .before in as-accepted lfField (says ran) (text ran) (at ran) _ _ (found ran _ (c .before .n .given .1)) (as-line (text ran) _ _)
+
+pub line-feed-spec : {M : Type 1} → statement M
+line-feed-spec =
+    tie.close
+    (tie.spec
+    sub-literal
+    part-literal-start
+    part-literal-end
+    slice-aggregate-literal
+    literal-requires
+    enum-told
+    more-requires
+    enum-known-place
+    add-refused
+    refused-requires
+    enum-known-n
+    add-t17
+    returns
+    returns-2
+    returns-3)

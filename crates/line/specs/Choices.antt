@@ -1,0 +1,153 @@
+-- For proofs. The stages that go by one byte, and the fields that they stand at.
+use mathlib.Core.Path.{_≡_, refl, sym, ap, _∙_, subst}
+use mathlib.Core.Bool.{Bool, true, false}
+use mathlib.Core.List.{List, [], _∷_, _++_}
+use Prim.Native.Nat.{ℕ, suc, _+_, _≤_, _<_}
+use native.Mathlib.Omega.{arith}
+use native.Mathlib.Numerals.{add-one, one-add}
+use lib.Dec.{eqb}
+use lib.ListN.{length, drop, getD, drop-of-length-le}
+use lib.Seq.{drop-cons}
+use borrow.Author.Tests.{eq-eqb, ne-eqb}
+use Rattle.exact.specs.Claim.{Verdict, accepted, more, refused, AllBytes}
+use Rattle.exact.specs.Field.{shift, after}
+use Rattle.exact.specs.Machine.{shift-shift}
+use Rattle.exact.specs.Pick.{pick}
+use Rattle.exact.specs.Parser.{Parser, just, _then_, either}
+use Rattle.exact.specs.Choice.{choose}
+use Rattle.exact.specs.Literal.{literal}
+use Rattle.record.specs.declared.Kind.the-variants.{Unspecified}
+use Rattle.record.specs.Records.{bare}
+use Rattle.header.specs.Header.{Header}
+use Rattle.header.specs.LineFields.{word, lined, lineFeed, fromSource, spaceField, restField, is4, isU, tcp4, tcp6, starts4, starts6, tcps, unknown, unknown-starts, tcps-starts, shortEnd, longEnd, isCr, unknownEnd}
+use Rattle.header.specs.Exactness.{address4, address6}
+use Rattle.line.specs.Families.{kindOf, field}
+
+abbrev pub fromSpace : Bool → Parser Header
+fromSpace six = spaceField then λ u. fromSource (kindOf six) (field six)
+
+abbrev pub families : Parser Header
+families = either is4 (tcp4 address4 address6) (tcp6 address4 address6) (starts4 address4 address6) (starts6 address4 address6)
+
+abbrev pub fromRest : Parser Header
+fromRest = restField then λ u. just (lined (bare Unspecified))
+
+abbrev pub words : Parser Header
+words = either isU unknown (tcps address4 address6) (unknown-starts address4 address6) (tcps-starts address4 address6)
+
+-- a field whose first byte has come, and the rest
+after-cons : {A B : Type 0} (v : Verdict A) (next : A → List ℕ → Verdict B) (c : ℕ) (t : List ℕ) → after (shift 1 v) next (c ∷ t) ≡ shift 1 (after v next t)
+after-cons (accepted a n) next c t =
+    sym
+    (shift-shift 1 n (next a (drop n t))
+    ∙ ap (λ (m : ℕ). shift (1 + n) (next a (drop m (c ∷ t)))) (sym (one-add n)))
+after-cons more next c t = refl
+after-cons (refused k p) next c t = refl
+
+-- a literal on a byte
+lit-first : (k x y : ℕ) (w t : List ℕ) → literal {A = ℕ} k 0 (x ∷ y ∷ w) (x ∷ t) ≡ shift 1 (literal k 0 (y ∷ w) t)
+lit-first k x y w t = simp (eq-eqb x x refl)
+
+lit-only : (k x : ℕ) (t : List ℕ) → literal {A = ℕ} k 0 (x ∷ []) (x ∷ t) ≡ accepted 0 1
+lit-only k x t = simp (eq-eqb x x refl)
+
+lit-other : (k x c : ℕ) (w t : List ℕ) → (c ≡ x → ⊥) → literal {A = ℕ} k 0 (x ∷ w) (c ∷ t) ≡ refused k 0
+lit-other k x c w t n = simp (ne-eqb c x n)
+
+-- the first byte of a literal of several, its only byte, and another byte than the first
+pub word-first : {B : Type 0} (k x y : ℕ) (w : List ℕ) (Q : ℕ → Parser B) (t : List ℕ) (bytes : AllBytes (x ∷ y ∷ w)) (bytes′ : AllBytes (y ∷ w))
+    → (word k x (y ∷ w) bytes then Q) .verdict (x ∷ t) ≡ shift 1 ((word k y w bytes′ then Q) .verdict t)
+word-first k x y w Q t bytes bytes′ =
+    ap (λ (v : Verdict ℕ). after v (λ a r. Q a .verdict r) (x ∷ t)) (lit-first k x y w t)
+    ∙ after-cons (literal k 0 (y ∷ w) t) (λ a r. Q a .verdict r) x t
+
+pub word-only : {B : Type 0} (k x : ℕ) (Q : ℕ → Parser B) (t : List ℕ) (bytes : AllBytes (x ∷ [])) → (word k x [] bytes then Q) .verdict (x ∷ t) ≡ shift 1 (Q 0 .verdict t)
+word-only k x Q t bytes = ap (λ (v : Verdict ℕ). after v (λ a r. Q a .verdict r) (x ∷ t)) (lit-only k x t)
+
+pub word-other : {B : Type 0} (k x : ℕ) (w : List ℕ) (Q : ℕ → Parser B) (c : ℕ) (t : List ℕ) (bytes : AllBytes (x ∷ w)) → (c ≡ x → ⊥)
+    → (word k x w bytes then Q) .verdict (c ∷ t) ≡ refused k 0
+word-other k x w Q c t bytes n = ap (λ (v : Verdict ℕ). after v (λ a r. Q a .verdict r) (c ∷ t)) (lit-other k x c w t n)
+
+-- ── at a place of the bytes ──
+module _ (s : List ℕ) (at : ℕ) where
+  -- no byte yet
+  pub choice-none : (first : ℕ → Bool) (v w : List ℕ → Verdict Header) → length s ≤ at → more ≡ shift at (choose first v w (drop at s))
+  choice-none first v w h = rw (drop-of-length-le s h)
+
+  module _ (inside : at < length s) where
+    here : drop at s ≡ getD s at 0 ∷ drop (at + 1) s
+    here = rw (add-one at) (drop-cons s at 0 inside)
+
+    pub choice-by : (first : ℕ → Bool) (v w : List ℕ → Verdict Header) (b : Bool) → first (getD s at 0) ≡ b
+        → shift at (pick b (v (drop at s)) (w (drop at s))) ≡ shift at (choose first v w (drop at s))
+    choice-by first v w b e =
+        ap (λ (x : Bool). shift at (pick x (v (drop at s)) (w (drop at s)))) (sym e)
+        ∙ ap (shift at)
+        (ap (λ (t : List ℕ). pick (first (getD s at 0)) (v t) (w t)) here
+        ∙ ap (choose first v w) (sym here))
+
+    -- the byte there begins the field, and the rest of the field follows
+    pub byte-first : (x : ℕ) (v w : List ℕ → Verdict Header) → getD s at 0 ≡ x → ((t : List ℕ) → v (x ∷ t) ≡ shift 1 (w t))
+        → shift (at + 1) (w (drop (at + 1) s)) ≡ shift at (v (drop at s))
+    byte-first x v w e h =
+        sym
+        (ap (λ (t : List ℕ). shift at (v t)) (here ∙ ap (λ (c : ℕ). c ∷ drop (at + 1) s) e)
+        ∙ ap (shift at) (h (drop (at + 1) s))
+        ∙ shift-shift at 1 (w (drop (at + 1) s)))
+
+    -- it does not
+    pub byte-other : (k : ℕ) (v : List ℕ → Verdict Header) → v (getD s at 0 ∷ drop (at + 1) s) ≡ refused k 0 → refused k at ≡ shift at (v (drop at s))
+    byte-other k v h =
+        let zero-more : at ≡ at + 0 = omega arith in
+        sym (ap (λ (t : List ℕ). shift at (v t)) here ∙ ap (shift at) h ∙ ap (λ (p : ℕ). refused k p) (sym zero-more))
+
+module _ (s : List ℕ) (at : ℕ) (inside : at < length s) where
+  abbrev four : Parser Header
+  four = tcp4 address4 address6
+
+  abbrev six : Parser Header
+  six = tcp6 address4 address6
+
+  -- behind "TCP"
+  pub family-four : getD s at 0 ≡ 52 → shift (at + 1) (fromSpace false .verdict (drop (at + 1) s)) ≡ shift at (families .verdict (drop at s))
+  family-four e =
+      byte-first s at inside 52 (four .verdict) (fromSpace false .verdict) e
+      (λ t. word-first 2 52 32 [] (λ u. fromSource (kindOf false) (field false)) t (omega arith) (omega arith))
+      ∙ choice-by s at inside is4 (four .verdict) (six .verdict) true (ap is4 e)
+
+  pub family-six : getD s at 0 ≡ 54 → shift (at + 1) (fromSpace true .verdict (drop (at + 1) s)) ≡ shift at (families .verdict (drop at s))
+  family-six e =
+      byte-first s at inside 54 (six .verdict) (fromSpace true .verdict) e
+      (λ t. word-first 2 54 32 [] (λ u. fromSource (kindOf true) (field true)) t (omega arith) (omega arith))
+      ∙ choice-by s at inside is4 (four .verdict) (six .verdict) false (ap is4 e)
+
+  pub family-other : (getD s at 0 ≡ 52 → ⊥) → (getD s at 0 ≡ 54 → ⊥) → refused 2 at ≡ shift at (families .verdict (drop at s))
+  family-other n m =
+      byte-other s at inside 2 (six .verdict)
+      (word-other 2 54 (32 ∷ []) (λ u. fromSource (kindOf true) (field true)) (getD s at 0) (drop (at + 1) s) (omega arith) m)
+      ∙ choice-by s at inside is4 (four .verdict) (six .verdict) false (ne-eqb (getD s at 0) 52 n)
+
+  -- behind "UNKNOWN"
+  pub end-cr : getD s at 0 ≡ 13 → shift (at + 1) (lineFeed (lined (bare Unspecified)) .verdict (drop (at + 1) s)) ≡ shift at (unknownEnd .verdict (drop at s))
+  end-cr e =
+      byte-first s at inside 13 (shortEnd .verdict) (lineFeed (lined (bare Unspecified)) .verdict) e
+      (λ t. word-only 2 13 (λ u. lineFeed (lined (bare Unspecified))) t (omega arith))
+      ∙ choice-by s at inside isCr (shortEnd .verdict) (longEnd .verdict) true (ap isCr e)
+
+  pub end-space : getD s at 0 ≡ 32 → shift (at + 1) (fromRest .verdict (drop (at + 1) s)) ≡ shift at (unknownEnd .verdict (drop at s))
+  end-space e =
+      byte-first s at inside 32 (longEnd .verdict) (fromRest .verdict) e (λ t. word-only 2 32 (λ u. fromRest) t (omega arith))
+      ∙ choice-by s at inside isCr (shortEnd .verdict) (longEnd .verdict) false (ap isCr e)
+
+  pub end-other : (getD s at 0 ≡ 13 → ⊥) → (getD s at 0 ≡ 32 → ⊥) → refused 2 at ≡ shift at (unknownEnd .verdict (drop at s))
+  end-other n m =
+      byte-other s at inside 2 (longEnd .verdict)
+      (word-other 2 32 [] (λ u. fromRest) (getD s at 0) (drop (at + 1) s) (omega arith) m)
+      ∙ choice-by s at inside isCr (shortEnd .verdict) (longEnd .verdict) false (ne-eqb (getD s at 0) 13 n)
+
+  -- behind "PROXY "
+  pub word-unknown : getD s at 0 ≡ 85 → shift at (unknown .verdict (drop at s)) ≡ shift at (words .verdict (drop at s))
+  word-unknown e = choice-by s at inside isU (unknown .verdict) (tcps address4 address6 .verdict) true (ap isU e)
+
+  pub word-tcp : (getD s at 0 ≡ 85 → ⊥) → shift at (tcps address4 address6 .verdict (drop at s)) ≡ shift at (words .verdict (drop at s))
+  word-tcp n = choice-by s at inside isU (unknown .verdict) (tcps address4 address6 .verdict) false (ne-eqb (getD s at 0) 85 n)

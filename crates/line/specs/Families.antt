@@ -1,0 +1,35 @@
+-- For proofs. What the families of a TCP line differ in: six is true for TCP6.
+use mathlib.Core.Bool.{Bool, true, false}
+use mathlib.Core.List.{List}
+use Prim.Native.Nat.{ℕ}
+use lib.ListN.{take}
+use Rattle.exact.specs.Claim.{Verdict, accepted, more, refused}
+use Rattle.exact.specs.Parser.{Parser}
+use Rattle.exact.specs.declared.Scan.{Scan}
+use Rattle.exact.specs.declared.Scan.the-variants.{Accepted, More, Refused}
+use Rattle.record.specs.declared.Transport.the-variants.{Stream}
+use Rattle.record.specs.declared.Kind.{Kind}
+use Rattle.record.specs.declared.Kind.the-variants.{Ip4, Ip6}
+use Rattle.header.specs.Exactness.{address4, address6}
+use Rattle.line.specs.declared.address.Found.{Found}
+
+abbrev pub kindOf : Bool → Kind
+kindOf true = Ip6 Stream
+kindOf false = Ip4 Stream
+
+abbrev pub width : Bool → ℕ
+width true = 16
+width false = 4
+
+abbrev pub field : Bool → Parser (List ℕ)
+field true = address6
+field false = address4
+
+-- the bytes of an address, in the first n of its array
+abbrev pub toldBytes : ℕ → Scan → Found → Verdict (List ℕ)
+toldBytes n (Accepted v size) r = accepted (take n (r .bytes)) size
+toldBytes n More r = more
+toldBytes n (Refused p) r = refused 3 p
+
+abbrev pub toldFound : ℕ → Found → Verdict (List ℕ)
+toldFound n r = toldBytes n (r .scan) r

@@ -1,0 +1,4 @@
+pub mod Families
+pub mod AddressLaws
+pub mod Copies
+pub mod Choices
