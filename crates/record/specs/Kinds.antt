@@ -22,6 +22,17 @@ family c =
     (pick (eqb c 0x31) (some (Unix Stream))
     (pick (eqb c 0x32) (some (Unix Datagram)) none))))))
 
+-- byte 13 of a kind, as it is written: unspecified and local as 00
+abbrev pub byteOf : Kind → ℕ
+byteOf Local = 0x00
+byteOf Unspecified = 0x00
+byteOf (Ip4 Stream) = 0x11
+byteOf (Ip4 Datagram) = 0x12
+byteOf (Ip6 Stream) = 0x21
+byteOf (Ip6 Datagram) = 0x22
+byteOf (Unix Stream) = 0x31
+byteOf (Unix Datagram) = 0x32
+
 -- "Addresses of 4, 16 or 108 bytes"
 abbrev pub addressLength : Kind → ℕ
 addressLength Local = 0

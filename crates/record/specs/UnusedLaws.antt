@@ -1,9 +1,9 @@
 -- The test of what a kind does not use says what `Clean` says, of every record in memory.
-use mathlib.Core.Path.{_≡_, refl, sym, ap, _∙_}
+use mathlib.Core.Path.{_≡_, refl, ap, _∙_}
 use mathlib.Core.Bool.{Bool, true, false, _&&_}
 use mathlib.Core.List.{List, [], _∷_}
 use mathlib.Core.Logic.{_↔_}
-use Prim.Native.Nat.{ℕ, suc, zero, _+_, _-_, _<_, _≤_}
+use Prim.Native.Nat.{ℕ, suc, zero, _-_, _<_}
 use native.Mathlib.Omega.{arith}
 use borrow.Author.Tests.{eqb-true, eq-eqb}
 use lib.Dec.{eqb}
@@ -31,13 +31,6 @@ all-zero (c ∷ s) e =
 pub zeros-all : (n : ℕ) → zeros (replicate n 0) ≡ true
 zeros-all zero = refl
 zeros-all (suc n) = zeros-all n
-
-pub address-fits : (k : Kind) → addressLength k ≤ 108
-address-fits Local = omega arith
-address-fits Unspecified = omega arith
-address-fits (Ip4 t) = omega arith
-address-fits (Ip6 t) = omega arith
-address-fits (Unix t) = omega arith
 
 module _ (k : Kind) (a : List ℕ) (size : length a ≡ 108) where
   address-clean : cleanAddress k a ≡ true ↔ (drop (addressLength k) a ≡ replicate (108 - addressLength k) 0)

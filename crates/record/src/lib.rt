@@ -1,9 +1,13 @@
 // The connection record: a kind, two addresses and two ports (document 01, "The record").
 // No public function has a `requires`.
+mod output;
+mod unused;
+
+pub use output::put;
+pub use output::put_addresses;
+pub use unused::clean;
 ghost use mathlib.Core.Path.{_≡_};
-ghost use lib.ListN.{drop};
-ghost use Rattle.record.specs.Kinds.{addressLength};
-ghost use Rattle.record.specs.Unused.{zeros, cleanPort, cleanTest};
+ghost use Rattle.record.specs.Kinds.{byteOf, addressLength, portLength, blockLength};
 
 // How a connection carries its bytes.
 pub enum Transport {
@@ -29,6 +33,28 @@ pub struct Record {
     pub destination_port: u16,
 }
 
+// Byte 13 of the kind; unspecified and local are written as 00.
+pub fn kind_byte(kind: Kind) -> u8
+    ensures { λ r. ⌜ r ≡ byteOf kind ⌝ }
+{
+    match kind {
+        Kind::Local => 0x00,
+        Kind::Unspecified => 0x00,
+        Kind::Ip4(t) => match t {
+            Transport::Stream => 0x11,
+            Transport::Datagram => 0x12,
+        },
+        Kind::Ip6(t) => match t {
+            Transport::Stream => 0x21,
+            Transport::Datagram => 0x22,
+        },
+        Kind::Unix(t) => match t {
+            Transport::Stream => 0x31,
+            Transport::Datagram => 0x32,
+        },
+    }
+}
+
 // How many bytes of an address array the kind uses.
 pub fn address_length(kind: Kind) -> usize
     ensures { λ r. ⌜ r ≡ addressLength kind ⌝ }
@@ -42,52 +68,28 @@ pub fn address_length(kind: Kind) -> usize
     }
 }
 
-// Whether the bytes from this place on are zero.
-fn zero_from(address: [u8; 108], at: usize) -> bool
-    ensures { λ r. ⌜ r ≡ zeros (drop at address) ⌝ }
-{
-    let mut i = at;
-    while i < 108 {
-        if address[i] != 0 {
-            return false;
-        }
-        i += 1;
-    }
-    true
-}
-
-// Whether the port is zero, or the kind has ports.
-fn clean_port(kind: Kind, port: u16) -> bool
-    ensures { λ r. ⌜ r ≡ cleanPort kind port ⌝ }
+// How many bytes a port of the kind has.
+fn port_length(kind: Kind) -> usize
+    ensures { λ r. ⌜ r ≡ portLength kind ⌝ }
 {
     match kind {
-        Kind::Local => port == 0,
-        Kind::Unspecified => port == 0,
-        Kind::Ip4(_) => true,
-        Kind::Ip6(_) => true,
-        Kind::Unix(_) => port == 0,
+        Kind::Local => 0,
+        Kind::Unspecified => 0,
+        Kind::Ip4(_) => 2,
+        Kind::Ip6(_) => 2,
+        Kind::Unix(_) => 0,
     }
 }
 
-// Whether the address bytes and ports that the record's kind does not use are zero.
-pub fn clean(r: Record) -> bool
-    ensures { λ b. ⌜ b ≡ cleanTest r ⌝ }
+// How many bytes the kind's address block has.
+pub fn block_length(kind: Kind) -> usize
+    ensures { λ r. ⌜ r ≡ blockLength kind ⌝ }
 {
-    let kind = r.kind;
-    let source = r.source;
-    let destination = r.destination;
-    let used = address_length(kind);
-    if zero_from(source, used) {
-        if zero_from(destination, used) {
-            if clean_port(kind, r.source_port) {
-                clean_port(kind, r.destination_port)
-            } else {
-                false
-            }
-        } else {
-            false
-        }
-    } else {
-        false
+    match kind {
+        Kind::Local => 0,
+        Kind::Unspecified => 0,
+        Kind::Ip4(_) => 12,
+        Kind::Ip6(_) => 36,
+        Kind::Unix(_) => 216,
     }
 }

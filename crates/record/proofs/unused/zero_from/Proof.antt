@@ -1,7 +1,7 @@
 -- The loop's invariant: what is tested from the start on is what is tested from the index i on.
 use Prim.Native.Nat.{ℕ, suc, _+_, _<_, _≤_, _-_}
 use mathlib.Core.Path.{_≡_, refl, sym, ap, _∙_}
-use mathlib.Core.Bool.{Bool, true, false, _&&_}
+use mathlib.Core.Bool.{Bool, false, _&&_}
 use mathlib.Core.List.{List}
 use native.Mathlib.Numerals.{add-one}
 use native.Mathlib.Omega.{arith}
@@ -10,8 +10,8 @@ use lib.Dec.{eqb}
 use lib.ListN.{length, drop, getD, drop-of-length-le}
 use lib.Seq.{drop-cons}
 use Rattle.record.specs.Unused.{zeros}
-use Rattle.record.proofs.zero_from.Statement.{statement}
-use Rattle.record.proofs.zero_from.Tie as tie
+use Rattle.record.proofs.unused.zero_from.Statement.{statement}
+use Rattle.record.proofs.unused.zero_from.Tie as tie
 
 abbrev Inv-loop : tie.InvT-loop
 Inv-loop at address i₀ i = zeros (drop at address) ≡ zeros (drop i address)

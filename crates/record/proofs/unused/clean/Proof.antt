@@ -1,14 +1,12 @@
 -- `clean` puts together what its tests ensure, in the order of `cleanTest`.
 use Prim.Native.Nat.{ℕ}
 use mathlib.Core.Path.{_≡_, sym, ap, _∙_}
-use mathlib.Core.Bool.{Bool, true, false}
-use mathlib.Core.List.{List}
 use borrow.Author.Needs.{needs}
 use lib.ListN.{drop}
 use Rattle.record.specs.declared.Record.{Record}
 use Rattle.record.specs.Unused.{zeros, cleanAddress}
-use Rattle.record.proofs.clean.Statement.{statement}
-use Rattle.record.proofs.clean.Tie as tie
+use Rattle.record.proofs.unused.clean.Statement.{statement}
+use Rattle.record.proofs.unused.clean.Tie as tie
 
 address-length-requires : tie.Need-address-length-requires
 address-length-requires c κs = search needs

@@ -1,7 +1,7 @@
--- Each arm answers as `cleanPort` does at its kind.
+-- Each arm answers as `blockLength` does at its kind.
 use borrow.Author.Needs.{needs}
-use Rattle.record.proofs.clean_port.Statement.{statement}
-use Rattle.record.proofs.clean_port.Tie as tie
+use Rattle.record.proofs.block_length.Statement.{statement}
+use Rattle.record.proofs.block_length.Tie as tie
 
 enum-told : tie.Need-enum-told
 enum-told c = search needs
@@ -25,15 +25,15 @@ returns-2 : tie.Need-returns-2
 returns-2 c = rw (c .enum-told2 .given .1)
 
 returns-3 : tie.Need-returns-3
-returns-3 c = search needs
+returns-3 c = rw (c .enum-told3 .given .1)
 
 returns-4 : tie.Need-returns-4
-returns-4 c = search needs
+returns-4 c = rw (c .enum-told4 .given .1)
 
 returns-5 : tie.Need-returns-5
 returns-5 c = rw (c .enum-told5 .given .1)
 
-pub clean-port-spec : {M : Type 1} → statement M
-clean-port-spec =
+pub block-length-spec : {M : Type 1} → statement M
+block-length-spec =
     tie.close
     (tie.spec enum-told enum-told-2 enum-told-3 enum-told-4 enum-told-5 returns returns-2 returns-3 returns-4 returns-5)

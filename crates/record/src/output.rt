@@ -1,0 +1,65 @@
+// What is put into an output: bytes, and a record's address block.
+use crate::Kind;
+use crate::Record;
+use crate::address_length;
+use crate::block_length;
+use crate::port_length;
+ghost use mathlib.Core.Path.{_≡_};
+ghost use Prim.Native.Nat.{_+_, _≤_};
+ghost use lib.ListN.{length, take};
+ghost use lib.Seq.{paste};
+ghost use Rattle.exact.specs.Network.{network};
+ghost use Rattle.record.specs.Kinds.{portLength};
+ghost use Rattle.record.specs.AddressBlock.{addressBlock};
+ghost use Rattle.record.specs.Placed.{placed};
+
+// Copies the bytes to this place of the output.
+fn copy(bytes: &[u8], out: &mut [u8], at: usize)
+    requires { ⌜ at + length (now bytes) ≤ length (now out) ⌝ }
+    ensures { λ _. ⌜ now (out .exit) ≡ paste (now (out .entry)) at (now (bytes .entry)) (length (now (bytes .entry))) ⌝ }
+{
+    let mut i: usize = 0;
+    while i < bytes.len() {
+        out[at + i] = bytes[i];
+        i += 1;
+    }
+}
+
+// Puts the bytes at this place of the output, where they fit; else the output stays as it is.
+pub fn put(bytes: &[u8], out: &mut [u8], at: usize)
+    ensures { λ _. ⌜ now (out .exit) ≡ placed (now (bytes .entry)) at (now (out .entry)) ⌝ }
+{
+    if at <= out.len() {
+        if bytes.len() <= out.len() - at {
+            copy(bytes, out, at);
+        }
+    }
+}
+
+// Puts a port of the kind in network order: nothing, where the kind has no ports.
+fn put_port(kind: Kind, port: u16, out: &mut [u8], at: usize)
+    ensures { λ _. ⌜ now (out .exit) ≡ placed (take (portLength kind) (network port)) at (now (out .entry)) ⌝ }
+{
+    let bytes = [(port / 256) as u8, (port % 256) as u8];
+    let n = port_length(kind);
+    put(&bytes[..n], out, at);
+}
+
+// Puts the record's address block at this place of the output, where it fits; else the output stays as it is.
+pub fn put_addresses(r: Record, out: &mut [u8], at: usize)
+    ensures { λ _. ⌜ now (out .exit) ≡ placed (addressBlock r) at (now (out .entry)) ⌝ }
+{
+    let kind = r.kind;
+    let source = r.source;
+    let destination = r.destination;
+    let n = address_length(kind);
+    let m = port_length(kind);
+    if at <= out.len() {
+        if block_length(kind) <= out.len() - at {
+            put(&source[..n], out, at);
+            put(&destination[..n], out, at + n);
+            put_port(kind, r.source_port, out, at + n + n);
+            put_port(kind, r.destination_port, out, at + n + n + m);
+        }
+    }
+}
