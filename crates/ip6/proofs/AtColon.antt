@@ -7,15 +7,14 @@ use native.Mathlib.Omega.{arith}
 use lib.ListN.{length, getD, take}
 use borrow.Author.Tests.{lt-ltb, le-ltb, eq-eqb, ne-eqb}
 use Rattle.exact.specs.Machine.{go, dead}
+use Rattle.exact.specs.declared.Scan.{Scan}
 use Rattle.exact.specs.declared.Scan.the-variants.{Refused}
-use Rattle.ip6.specs.declared.Partial.{Partial}
-use Rattle.ip6.specs.declared.Scanned.{Scanned}
 use Rattle.ip6.specs.Machine.{Seen, plain, gapped, room, digits, behind, colon, gap, finish, follow, step}
 use Rattle.ip6.specs.Steps.{colon-no-digit, colon-colon, begin-other}
-use Rattle.ip6.specs.Partial.{seenAt, seenOf, Sized, Gapped}
-use Rattle.ip6.specs.Answer.{Without, From, Closed}
+use Rattle.ip6.specs.Partial.{Partial, Sized, seenAt, seenOf}
+use Rattle.ip6.specs.Answer.{From, Closed}
 use Rattle.ip6.proofs.Spread.{count-length}
-use Rattle.ip6.proofs.Seen.{has-room, is-full, none-seen, gap-seen}
+use Rattle.ip6.proofs.Seen.{has-room, is-full, none-seen, opened, gap-seen}
 use Rattle.ip6.proofs.Turn.{refuses, passes, likewise, closes}
 
 -- ── the moves ──
@@ -59,51 +58,53 @@ module _ (end c : ℕ) where
 abbrev pub held : Partial → List ℕ
 held x = take (x .count) (x .groups)
 
-module _ {end : ℕ} {s : List ℕ} {i : ℕ} {r : Scanned} where
+module _ {end : ℕ} {s : List ℕ} {i : ℕ} {g : List ℕ} where
   -- ── behind a group ──
-  pub behind-other : {n : Seen} → i < length s → (getD s i 0 ≡ 58 → ⊥) → (getD s i 0 ≡ end → ⊥) → Without (Refused i) r → From end s i (behind n) r
-  behind-other {n} h a b w = refuses h (follow-other end (getD s i 0) n a b) w
+  pub behind-other : {n : Seen} → i < length s → (getD s i 0 ≡ 58 → ⊥) → (getD s i 0 ≡ end → ⊥) → From end s i (behind n) (Refused i) g
+  behind-other {n} h a b = refuses h (follow-other end (getD s i 0) n a b)
 
-  pub behind-ends : {n : Seen} → i < length s → (getD s i 0 ≡ 58 → ⊥) → getD s i 0 ≡ end → Closed i n r → From end s i (behind n) r
+  pub behind-ends : {n : Seen} {t : Scan} → i < length s → (getD s i 0 ≡ 58 → ⊥) → getD s i 0 ≡ end → Closed i n t g
+      → From end s i (behind n) t g
   behind-ends {n} h a b f = closes h (follow-ends end (getD s i 0) n a b) f
 
   module _ {x : Partial} (sized : Sized x) where
-    pub behind-full : i < length s → getD s i 0 ≡ 58 → x .count ≡ 8 → Without (Refused i) r → From end s i (behind (seenOf x)) r
-    behind-full h a n w = refuses h (follow-full end (getD s i 0) (seenOf x) a (is-full x sized n)) w
+    pub behind-full : i < length s → getD s i 0 ≡ 58 → 8 ≤ x .count → From end s i (behind (seenOf x)) (Refused i) g
+    behind-full h a n = refuses h (follow-full end (getD s i 0) (seenOf x) a (is-full x sized n))
 
-    pub behind-colon : i < length s → getD s i 0 ≡ 58 → (x .count ≡ 8 → ⊥) → From end s (i + 1) (colon (seenOf x)) r
-        → From end s i (behind (seenOf x)) r
+    pub behind-colon : {t : Scan} → i < length s → getD s i 0 ≡ 58 → x .count < 8 → From end s (i + 1) (colon (seenOf x)) t g
+        → From end s i (behind (seenOf x)) t g
     behind-colon h a n f = passes h (follow-more end (getD s i 0) (seenOf x) a (has-room x sized n)) f
 
     -- ── behind a colon ──
-    pub colon-lone : i < length s → (getD s i 0 ≡ 58 → ⊥) → x .count ≡ 0 → Without (Refused i) r → From end s i (colon (seenOf x)) r
-    colon-lone h a n w = refuses h (lone-step end (getD s i 0) (seenOf x) (none-seen x sized n) a) w
+    pub colon-lone : i < length s → (getD s i 0 ≡ 58 → ⊥) → x .count ≡ 0 → From end s i (colon (seenOf x)) (Refused i) g
+    colon-lone h a n = refuses h (lone-step end (getD s i 0) (seenOf x) (none-seen x sized n) a)
 
-    pub colon-group : i < length s → (getD s i 0 ≡ 58 → ⊥) → (x .count ≡ 0 → ⊥) → From end s i (digits (seenOf x) 0 0) r
-        → From end s i (colon (seenOf x)) r
+    pub colon-group : {t : Scan} → i < length s → (getD s i 0 ≡ 58 → ⊥) → (x .count ≡ 0 → ⊥) → From end s i (digits (seenOf x) 0 0) t g
+        → From end s i (colon (seenOf x)) t g
     colon-group h a n f =
         let b = count-length x sized in
         likewise h (group-step end (getD s i 0) (x .gap) (held x) (omega arith) a) f
 
-    pub colon-twice : i < length s → getD s i 0 ≡ 58 → 0 < x .gap → Without (Refused i) r → From end s i (colon (seenOf x)) r
-    colon-twice h a g w = refuses h (twice-step end (getD s i 0) (x .gap) (held x) g a) w
+    pub colon-twice : i < length s → getD s i 0 ≡ 58 → 0 < x .gap → From end s i (colon (seenOf x)) (Refused i) g
+    colon-twice h a z = refuses h (twice-step end (getD s i 0) (x .gap) (held x) z a)
 
-    pub colon-gap : i < length s → getD s i 0 ≡ 58 → x .gap ≤ 0 → From end s (i + 1) (gap (held x)) r → From end s i (colon (seenOf x)) r
-    colon-gap h a g f = passes h (gap-step end (getD s i 0) (x .gap) (held x) (omega arith) a) f
+    pub colon-gap : {t : Scan} → i < length s → getD s i 0 ≡ 58 → x .gap ≤ 0 → From end s (i + 1) (gap (held x)) t g
+        → From end s i (colon (seenOf x)) t g
+    colon-gap h a z f = passes h (gap-step end (getD s i 0) (x .gap) (held x) (omega arith) a) f
 
     -- ── behind "::" ──
-    pub gap-full : i < length s → (getD s i 0 ≡ end → ⊥) → x .count ≡ 7 → Without (Refused i) r → From end s i (gap (held x)) r
-    gap-full h a n w = let b = count-length x sized in refuses h (full-step end (getD s i 0) (held x) a (omega arith)) w
+    pub gap-full : i < length s → (getD s i 0 ≡ end → ⊥) → 7 ≤ x .count → From end s i (gap (held x)) (Refused i) g
+    gap-full h a n = let b = count-length x sized in refuses h (full-step end (getD s i 0) (held x) a (omega arith))
 
-    module _ (few : x .count < 8) {y : Partial} (g : Gapped x y) where
-      pub gap-ends : i < length s → getD s i 0 ≡ end → Closed i (seenOf y) r → From end s i (gap (held x)) r
-      gap-ends h a f = closes h (end-step end (getD s i 0) (held x) a ∙ ap finish (sym (gap-seen x sized few y g))) f
+    module _ (few : x .count < 8) where
+      pub gap-ends : {t : Scan} → i < length s → getD s i 0 ≡ end → Closed i (seenOf (opened x)) t g → From end s i (gap (held x)) t g
+      gap-ends h a f = closes h (end-step end (getD s i 0) (held x) a ∙ ap finish (sym (gap-seen x sized few))) f
 
-      pub gap-group : i < length s → (getD s i 0 ≡ end → ⊥) → (x .count ≡ 7 → ⊥) → From end s i (digits (seenOf y) 0 0) r
-          → From end s i (gap (held x)) r
+      pub gap-group : {t : Scan} → i < length s → (getD s i 0 ≡ end → ⊥) → x .count < 7 → From end s i (digits (seenOf (opened x)) 0 0) t g
+          → From end s i (gap (held x)) t g
       gap-group h a n f =
           let b = count-length x sized in
           likewise h
           (right-step end (getD s i 0) (held x) a (omega arith)
-          ∙ ap (λ (n : Seen). step end (digits n 0 0) (getD s i 0)) (sym (gap-seen x sized few y g)))
+          ∙ ap (λ (n : Seen). step end (digits n 0 0) (getD s i 0)) (sym (gap-seen x sized few)))
           f

@@ -5,12 +5,11 @@ use mathlib.Core.List.{List, [], _∷_, _++_}
 use Prim.Native.Nat.{ℕ, zero, suc, _+_, _-_, _≤_, _<_}
 use native.Mathlib.Numerals.{add-one}
 use native.Mathlib.Omega.{arith}
-use lib.ListN.{length, take, drop, replicate, set, length-take, length-drop, length-append, length-set, drop-of-length-le}
-use lib.Seq.{drop-set-lt, drop-drop, take-suc-set, take-append-le, drop-append-le, getD-set-same, getD-set-other, take-at}
+use lib.ListN.{length, take, drop, getD, getD-replicate, replicate, set, length-take, length-drop, length-append, length-set, drop-of-length-le}
+use lib.Seq.{drop-set-lt, drop-drop, take-suc-set, take-append-le, drop-append-le, getD-set-other, take-at, take-suc, getD-drop}
 use borrow.Author.Tests.{lt-ltb, le-ltb}
-use Rattle.ip6.specs.declared.Partial.{Partial}
 use Rattle.ip6.specs.Machine.{plain, gapped, push, room}
-use Rattle.ip6.specs.Partial.{seenAt, seenOf, Sized, Pushed, Gapped}
+use Rattle.ip6.specs.Partial.{Partial, sofar, Sized, seenAt, seenOf}
 use Rattle.ip6.proofs.Spread.{count-length}
 
 -- ── the tests ──
@@ -32,11 +31,11 @@ module _ (x : Partial) (h : Sized x) where
       let b = length-drop (suc g) l in
       le-ltb (length (take g l) + length (drop (suc g) l)) 7 (omega arith)
 
-  pub has-room : (x .count ≡ 8 → ⊥) → room (seenOf x) ≡ true
-  has-room n = room-at (x .gap) (x .count) held (count-length x h) (h .within) (let a = h .most in omega arith)
+  pub has-room : x .count < 8 → room (seenOf x) ≡ true
+  has-room n = room-at (x .gap) (x .count) held (count-length x h) (h .within) n
 
-  pub is-full : x .count ≡ 8 → room (seenOf x) ≡ false
-  is-full n = full-at (x .gap) (x .count) held (count-length x h) (h .within) (omega arith)
+  pub is-full : 8 ≤ x .count → room (seenOf x) ≡ false
+  is-full n = full-at (x .gap) (x .count) held (count-length x h) (h .within) n
 
   pub none-seen : x .count ≡ 0 → seenOf x ≡ plain []
   none-seen n = let a = h .within in let e : x .gap ≡ 0 = omega arith in rw (e, n)
@@ -49,16 +48,22 @@ push-at : (g v : ℕ) (l : List ℕ) → g ≤ length l → seenAt g (l ++ v ∷
 push-at zero v l m = refl
 push-at (suc g) v l m = ap₂ gapped (take-append-le g l (v ∷ []) (omega arith)) (drop-append-le (suc g) l (v ∷ []) m)
 
+abbrev pub pushed : Partial → ℕ → Partial
+pushed x v = sofar (set (x .groups) (x .count) v) (x .count + 1) (x .gap)
+
+-- "::" counts as the zero that stands there
+abbrev pub opened : Partial → Partial
+opened x = sofar (x .groups) (x .count + 1) (x .count + 1)
+
 zeros-less : (m : ℕ) → _≡_ {A = List ℕ} (drop 1 (replicate m 0)) (replicate (m - 1) 0)
 zeros-less zero = refl
 zeros-less (suc m) = let e : m ≡ suc m - 1 = omega arith in ap (λ (n : ℕ). replicate n 0) e
 
 module _ (x : Partial) (h : Sized x) (room-here : x .count < 8) where
-  rest-more : (v : ℕ) → drop (x .count + 1) (set (x .groups) (x .count) v) ≡ replicate (8 - (x .count + 1)) 0
-  rest-more v =
+  rest-less : drop (x .count + 1) (x .groups) ≡ replicate (8 - (x .count + 1)) 0
+  rest-less =
       let e : 8 - x .count - 1 ≡ 8 - (x .count + 1) = omega arith in
-      drop-set-lt (x .count + 1) (x .groups) (x .count) v (omega arith)
-      ∙ sym (drop-drop 1 (x .count) (x .groups))
+      sym (drop-drop 1 (x .count) (x .groups))
       ∙ ap (λ (l : List ℕ). drop 1 l) (h .rest)
       ∙ zeros-less (8 - x .count)
       ∙ ap (λ (n : ℕ). replicate n 0) e
@@ -66,46 +71,53 @@ module _ (x : Partial) (h : Sized x) (room-here : x .count < 8) where
   held-more : (v : ℕ) → take (x .count + 1) (set (x .groups) (x .count) v) ≡ take (x .count) (x .groups) ++ v ∷ []
   held-more v = let a = h .eight in rw add-one (take-suc-set (x .groups) (x .count) v (omega arith))
 
-  module _ (v : ℕ) (r : Partial) (p : Pushed x v r) where
-    pub push-seen : seenOf r ≡ push (seenOf x) v
+  module _ (v : ℕ) where
+    pub push-seen : seenOf (pushed x v) ≡ push (seenOf x) v
     push-seen =
         let a = count-length x h in
         let b = h .within in
-        rw (p .groups, p .count, p .gap) (ap (seenAt (x .gap)) (held-more v) ∙ push-at (x .gap) v (take (x .count) (x .groups)) (omega arith))
+        ap (seenAt (x .gap)) (held-more v) ∙ push-at (x .gap) v (take (x .count) (x .groups)) (omega arith)
 
-    pub push-sized : Sized r
+    pub push-sized : Sized (pushed x v)
     push-sized =
         record {
-          eight = rw (p .groups) (length-set (x .groups) (x .count) v ∙ h .eight);
-          most = let a = p .count in omega arith;
-          within = let a = p .count in let b = p .gap in let c = h .within in omega arith;
-          rest = rw (p .groups, p .count) (rest-more v);
+          eight = length-set (x .groups) (x .count) v ∙ h .eight;
+          most = omega arith;
+          within = let a = h .within in omega arith;
+          rest = drop-set-lt (x .count + 1) (x .groups) (x .count) v (omega arith) ∙ rest-less;
           zero-there = λ g e.
-              let b = p .gap in
-              let c = h .within in
-              rw (p .groups) (getD-set-other (x .groups) (x .count) g v 0 (λ z. omega arith) ∙ h .zero-there g (omega arith));
+              let a = h .within in
+              getD-set-other (x .groups) (x .count) g v 0 (λ z. omega arith) ∙ h .zero-there g e;
         }
 
-  module _ (r : Partial) (p : Gapped x r) where
-    pub gap-seen : seenOf r ≡ gapped (take (x .count) (x .groups)) []
-    gap-seen =
-        let a = count-length x h in
-        let held : List ℕ = take (x .count) (x .groups) in
-        let groups : take (r .count) (r .groups) ≡ held ++ 0 ∷ [] = rw (p .groups, p .count) (held-more 0) in
-        ap₂ seenAt (p .gap ∙ add-one (x .count)) groups
-        ∙ ap₂ gapped (take-at held (0 ∷ []) (x .count) a)
-        (drop-of-length-le (held ++ 0 ∷ []) {i = suc (x .count)} (simp length-append (omega arith)))
+  zero-next : getD (x .groups) (x .count) 0 ≡ 0
+  zero-next =
+      let a = h .eight in
+      let some : 0 < 8 - x .count = omega arith in
+      let at : x .count ≡ x .count + 0 = omega arith in
+      ap (λ (n : ℕ). getD (x .groups) n 0) at
+      ∙ sym (getD-drop (x .count) (x .groups) 0 0)
+      ∙ ap (λ (l : List ℕ). getD l 0 0) (h .rest)
+      ∙ getD-replicate (8 - x .count) 0 0 0 some
 
-    pub gap-sized : Sized r
-    gap-sized =
-        record {
-          eight = rw (p .groups) (length-set (x .groups) (x .count) 0 ∙ h .eight);
-          most = let a = p .count in omega arith;
-          within = let a = p .count in let b = p .gap in omega arith;
-          rest = rw (p .groups, p .count) (rest-more 0);
-          zero-there = λ g e.
-              let a = p .gap in
-              let b = h .eight in
-              let last : g ≡ x .count = omega arith in
-              rw (p .groups, last) (getD-set-same (x .groups) (x .count) 0 0 (omega arith));
-        }
+  pub gap-seen : seenOf (opened x) ≡ gapped (take (x .count) (x .groups)) []
+  gap-seen =
+      let a = count-length x h in
+      let b = h .eight in
+      let held : List ℕ = take (x .count) (x .groups) in
+      let more : take (x .count + 1) (x .groups) ≡ held ++ 0 ∷ [] =
+      rw add-one (take-suc (x .groups) (x .count) 0 (omega arith) ∙ ap (λ (v : ℕ). held ++ v ∷ []) zero-next)
+      in
+      ap₂ seenAt (add-one (x .count)) more
+      ∙ ap₂ gapped (take-at held (0 ∷ []) (x .count) a)
+      (drop-of-length-le (held ++ 0 ∷ []) {i = suc (x .count)} (simp length-append (omega arith)))
+
+  pub gap-sized : Sized (opened x)
+  gap-sized =
+      record {
+        eight = h .eight;
+        most = omega arith;
+        within = omega arith;
+        rest = rest-less;
+        zero-there = λ g e. let last : g ≡ x .count = omega arith in rw last zero-next;
+      }

@@ -7,7 +7,7 @@ use lib.ListN.{length, take, drop, getD, set, replicate, take-append-drop, drop-
 use lib.Seq.{drop-cons, getD-at, set-at, length-take-le, take-all, take-suc, take-take, getD-take}
 use borrow.Author.Tests.{eq-eqb, ne-eqb}
 use Rattle.exact.specs.Machine.{done, dead}
-use Rattle.ip6.specs.declared.Partial.{Partial}
+use Rattle.ip6.specs.Partial.{Partial}
 use Rattle.ip6.specs.Address.{filled}
 use Rattle.ip6.specs.Machine.{finish}
 use Rattle.ip6.specs.Partial.{seenAt, seenOf, Sized, spreadAt, spread}

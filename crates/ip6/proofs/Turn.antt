@@ -2,27 +2,15 @@
 use mathlib.Core.Path.{_≡_, refl, sym, _∙_}
 use mathlib.Core.List.{List}
 use Prim.Native.Nat.{ℕ, _+_, _≤_, _<_}
-use lib.ListN.{length, getD, replicate}
+use lib.ListN.{length, getD}
 use lib.Dec.{eqb}
 use Rattle.exact.specs.Claim.{Verdict, accepted, refused}
 use Rattle.exact.specs.Pick.{pick-by}
 use Rattle.exact.specs.declared.Scan.{Scan}
 use Rattle.exact.specs.Machine.{Move, go, done, dead, from, from-go, from-done, from-dead, from-end}
 use Rattle.exact.specs.declared.Scan.the-variants.{More, Refused}
-use Rattle.ip6.specs.declared.Scanned.{Scanned}
 use Rattle.ip6.specs.Machine.{Seen, plain, gapped, State, finish, step}
-use Rattle.ip6.specs.Told.{heard, toldAddress, Unused}
-use Rattle.ip6.specs.Answer.{Without, From, closed, Closed}
-
--- ── an answer without an address ──
-pub told-without : {t : Scan} {r : Scanned} → Without t r → (k : ℕ) → toldAddress k r ≡ heard k t (replicate 8 0)
-told-without w k = rw (w .scan, w .groups)
-
-pub refused-unused : {p : ℕ} {r : Scanned} → Without (Refused p) r → Unused (r .scan) (r .groups)
-refused-unused w = rw (w .scan) (w .groups)
-
-pub more-unused : {r : Scanned} → Without More r → Unused (r .scan) (r .groups)
-more-unused w = rw (w .scan) (w .groups)
+use Rattle.ip6.specs.Answer.{From, closed, Closed}
 
 -- ── the verdict from a place on, by the move there ──
 module _ (end : ℕ) (s : List ℕ) (i : ℕ) (k : ℕ) where
@@ -42,33 +30,32 @@ module _ (end : ℕ) (s : List ℕ) (i : ℕ) (k : ℕ) where
   closed-moves (gapped l m) = refl
 
 -- ── the answer from a place on ──
-module _ {end : ℕ} {s : List ℕ} {i : ℕ} {q : State} {r : Scanned} where
-  pub wants : length s ≤ i → Without More r → From end s i q r
-  wants h w =
-      record { verdict = λ k. told-without w k ∙ sym (from-end k (step end) s i q h); unused = more-unused w }
+module _ {end : ℕ} {s : List ℕ} {i : ℕ} {q : State} {g : List ℕ} where
+  pub wants : length s ≤ i → From end s i q More g
+  wants h = record { verdict = λ k. sym (from-end k (step end) s i q h); bare = tt }
 
-  pub refuses : i < length s → step end q (getD s i 0) ≡ dead → Without (Refused i) r → From end s i q r
-  refuses h e w =
-      record { verdict = λ k. told-without w k ∙ sym (from-dead k (step end) s i q h e); unused = refused-unused w }
+  pub refuses : i < length s → step end q (getD s i 0) ≡ dead → From end s i q (Refused i) g
+  refuses h e = record { verdict = λ k. sym (from-dead k (step end) s i q h e); bare = tt }
 
-  pub passes : {p : State} → i < length s → step end q (getD s i 0) ≡ go p → From end s (i + 1) p r → From end s i q r
-  passes {p} h e f = record { verdict = λ k. f .verdict k ∙ sym (from-go k (step end) s i q p h e); unused = f .unused }
+  module _ {t : Scan} where
+    pub passes : {p : State} → i < length s → step end q (getD s i 0) ≡ go p → From end s (i + 1) p t g → From end s i q t g
+    passes {p} h e f = record { verdict = λ k. f .verdict k ∙ sym (from-go k (step end) s i q p h e); bare = f .bare }
 
-  -- a byte that two states treat alike
-  pub likewise : {p : State} → i < length s → step end q (getD s i 0) ≡ step end p (getD s i 0) → From end s i p r → From end s i q r
-  likewise {p} h e f =
-      record {
-        verdict = λ k.
-            f .verdict k
-            ∙ by-move end s i k p (step end p (getD s i 0)) h refl
-            ∙ sym (by-move end s i k q (step end p (getD s i 0)) h e);
-        unused = f .unused;
-      }
+    -- a byte that two states treat alike
+    pub likewise : {p : State} → i < length s → step end q (getD s i 0) ≡ step end p (getD s i 0) → From end s i p t g → From end s i q t g
+    likewise {p} h e f =
+        record {
+          verdict = λ k.
+              f .verdict k
+              ∙ by-move end s i k p (step end p (getD s i 0)) h refl
+              ∙ sym (by-move end s i k q (step end p (getD s i 0)) h e);
+          bare = f .bare;
+        }
 
-  -- the byte that ends the address
-  pub closes : {n : Seen} → i < length s → step end q (getD s i 0) ≡ finish n → Closed i n r → From end s i q r
-  closes {n} h e f =
-      record {
-        verdict = λ k. f .verdict k ∙ closed-moves end s i k n ∙ sym (by-move end s i k q (finish n) h e);
-        unused = f .unused;
-      }
+    -- the byte that ends the address
+    pub closes : {n : Seen} → i < length s → step end q (getD s i 0) ≡ finish n → Closed i n t g → From end s i q t g
+    closes {n} h e f =
+        record {
+          verdict = λ k. f .verdict k ∙ closed-moves end s i k n ∙ sym (by-move end s i k q (finish n) h e);
+          bare = f .bare;
+        }

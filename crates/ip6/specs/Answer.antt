@@ -2,23 +2,23 @@
 use mathlib.Core.Path.{_≡_}
 use mathlib.Core.List.{List}
 use Prim.Native.Nat.{ℕ, _+_}
-use lib.ListN.{replicate}
 use Rattle.exact.specs.Claim.{Verdict, accepted, more, refused}
 use Rattle.exact.specs.Machine.{Move, go, done, dead, from}
 use Rattle.exact.specs.declared.Scan.{Scan}
-use Rattle.ip6.specs.declared.Scanned.{Scanned}
+use Rattle.exact.specs.declared.Scan.the-variants.{Accepted, More, Refused}
 use Rattle.ip6.specs.Machine.{Seen, State, finish, step}
-use Rattle.ip6.specs.Told.{toldAddress, Unused}
+use Rattle.ip6.specs.Told.{heard}
 
--- no address is accepted
-pub record Without (t : Scan) (r : Scanned) : Type 0 where
-  pub scan : r .scan ≡ t
-  pub groups : r .groups ≡ replicate 8 0
+-- the number beside an accepted address is 0
+abbrev pub Bare : Scan → Type 0
+Bare (Accepted v n) = v ≡ 0
+Bare More = Unit {0}
+Bare (Refused p) = Unit {0}
 
 -- the machine's answer on the bytes from the place i on, in the state q
-pub record From (end : ℕ) (s : List ℕ) (i : ℕ) (q : State) (r : Scanned) : Type 0 where
-  pub verdict : (k : ℕ) → toldAddress k r ≡ from k (step end) s i q
-  pub unused : Unused (r .scan) (r .groups)
+pub record From (end : ℕ) (s : List ℕ) (i : ℕ) (q : State) (t : Scan) (groups : List ℕ) : Type 0 where
+  pub verdict : (k : ℕ) → heard k t groups ≡ from k (step end) s i q
+  pub bare : Bare t
 
 -- the verdict of a move that ends the reading at the place i
 abbrev pub closed : ℕ → ℕ → Move State (List ℕ) → Verdict (List ℕ)
@@ -27,6 +27,6 @@ closed k i (done vs) = accepted vs (i + 1)
 closed k i dead = refused k i
 
 -- the machine's answer where the address ends at the place i, behind the groups n
-pub record Closed (i : ℕ) (n : Seen) (r : Scanned) : Type 0 where
-  pub verdict : (k : ℕ) → toldAddress k r ≡ closed k i (finish n)
-  pub unused : Unused (r .scan) (r .groups)
+pub record Closed (i : ℕ) (n : Seen) (t : Scan) (groups : List ℕ) : Type 0 where
+  pub verdict : (k : ℕ) → heard k t groups ≡ closed k i (finish n)
+  pub bare : Bare t

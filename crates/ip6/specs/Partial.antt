@@ -1,18 +1,18 @@
--- For proofs. What a partial address of the code is to the machine, and what the functions on it do.
+-- For proofs. What an address so far, as the code holds it, is to the machine.
 use mathlib.Core.Path.{_≡_}
 use mathlib.Core.List.{List, _++_}
-use Prim.Native.Nat.{ℕ, zero, suc, _+_, _-_, _≤_}
-use lib.ListN.{length, take, drop, getD, set, replicate}
-use Rattle.ip6.specs.declared.Partial.{Partial}
+use Prim.Native.Nat.{ℕ, zero, suc, _-_, _≤_}
+use lib.ListN.{length, take, drop, getD, replicate}
 use Rattle.ip6.specs.Machine.{Seen, plain, gapped}
 
--- the groups l, of which the first `gap` end with "::"
-abbrev pub seenAt : ℕ → List ℕ → Seen
-seenAt zero l = plain l
-seenAt (suc g) l = gapped (take g l) (drop (suc g) l)
+-- the first `count` groups, of which the first `gap` end with "::"
+pub record Partial : Type 0 where
+  pub groups : List ℕ
+  pub count : ℕ
+  pub gap : ℕ
 
-abbrev pub seenOf : Partial → Seen
-seenOf x = seenAt (x .gap) (take (x .count) (x .groups))
+abbrev pub sofar : List ℕ → ℕ → ℕ → Partial
+sofar groups count gap = record { groups = groups; count = count; gap = gap }
 
 pub record Sized (x : Partial) : Type 0 where
   pub eight : length (x .groups) ≡ 8
@@ -22,15 +22,12 @@ pub record Sized (x : Partial) : Type 0 where
   -- the group that "::" counts as
   pub zero-there : (g : ℕ) → x .gap ≡ suc g → getD (x .groups) g 0 ≡ 0
 
-pub record Pushed (x : Partial) (v : ℕ) (r : Partial) : Type 0 where
-  pub groups : r .groups ≡ set (x .groups) (x .count) v
-  pub count : r .count ≡ x .count + 1
-  pub gap : r .gap ≡ x .gap
+abbrev pub seenAt : ℕ → List ℕ → Seen
+seenAt zero l = plain l
+seenAt (suc g) l = gapped (take g l) (drop (suc g) l)
 
-pub record Gapped (x r : Partial) : Type 0 where
-  pub groups : r .groups ≡ set (x .groups) (x .count) 0
-  pub count : r .count ≡ x .count + 1
-  pub gap : r .gap ≡ x .count + 1
+abbrev pub seenOf : Partial → Seen
+seenOf x = seenAt (x .gap) (take (x .count) (x .groups))
 
 -- the eight groups that n groups stand for, where zeros come behind the first i
 abbrev pub spreadAt : List ℕ → ℕ → ℕ → List ℕ

@@ -100,7 +100,7 @@ side : (l f : List ℕ) → Groups f l → Side f l
 side [] f a = absurd a
 side (v ∷ l) f a = a
 
-pub closes : (s : Seen) (p g : List ℕ) (v : ℕ) → Opening s p → Group g v → Closed (push s v) (p ++ g)
+closes : (s : Seen) (p g : List ℕ) (v : ℕ) → Opening s p → Group g v → Closed (push s v) (p ++ g)
 closes (plain l) p g v a b = side (l ++ v ∷ []) (p ++ g) (grouped l p g v a b)
 closes (gapped l r) p g v a b =
     (a .0, a .1 ++ g, rw (a .2) (simp append-assoc), a .3, grouped r (a .1) g v (a .4) b)

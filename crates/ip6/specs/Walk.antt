@@ -84,7 +84,8 @@ module _ (end : ℕ) (e : Ending end) where
       groups-walk (w ∷ ws) (g .1) (push s v) c t vs (g .4) (rw (push-all s v (w ∷ ws)) at h) other (rw (push-all s v (w ∷ ws)) at r)
       in
       let here : Takes end (behind (push s v)) (58 ∷ (g .1 ++ c ∷ t)) vs =
-      goes end (behind (push s v)) (colon (push s v)) 58 (g .1 ++ c ∷ t) vs (follow-colon end (push s v) (room-all s v w ws h)) (group-colon s v (g .1 ++ c ∷ t) vs on)
+      goes end (behind (push s v)) (colon (push s v)) 58 (g .1 ++ c ∷ t) vs (follow-colon end (push s v) (room-all s v w ws h))
+      (group-colon s v (g .1 ++ c ∷ t) vs on)
       in
       let split : f ++ c ∷ t ≡ g .0 ++ 58 ∷ (g .1 ++ c ∷ t) = rw (g .2) (simp append-assoc) in
       rw split (group-walk (g .0) v s 58 (g .1 ++ c ∷ t) vs (g .3) colon-no-digit here)

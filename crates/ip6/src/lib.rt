@@ -1,14 +1,17 @@
 // IPv6 text, as document 01 has it ("The text line"): a group and a colon part by turns, until the byte that ends the address.
 // No public function has a `requires`.
+//
+// An address so far is the first count of its groups, with zeros behind them. "::" counts as one group, a zero; gap counts the groups up to
+// and with it, and is 0 while it has not come.
 use exact::Scan;
 ghost use mathlib.Core.Path.{_≡_};
-ghost use Prim.Native.Nat.{ℕ, _<_};
+ghost use Prim.Native.Nat.{ℕ, _+_, _^_, _<_};
 ghost use Rattle.exact.specs.Machine.{run};
 ghost use Rattle.ip6.specs.Address.{hexOf};
 ghost use Rattle.ip6.specs.Machine.{start, digits, behind, step};
 ghost use Rattle.ip6.specs.Told.{toldAddress, Unused};
-ghost use Rattle.ip6.specs.Partial.{Sized, seenOf, spread, Pushed, Gapped};
-ghost use Rattle.ip6.specs.Answer.{Without, From, Closed};
+ghost use Rattle.ip6.specs.Partial.{Sized, sofar, seenOf, spread};
+ghost use Rattle.ip6.specs.Answer.{From, Closed};
 
 // The value of a hex digit, in either case; 16 for any other byte.
 fn hex_value(c: u8) -> u8
@@ -37,92 +40,42 @@ pub struct Scanned {
     pub groups: [u16; 8],
 }
 
-// The groups of an address so far. "::" counts as one group, a zero; gap counts the groups up to and with it, and is 0 while it has not come.
-struct Partial {
-    groups: [u16; 8],
-    count: usize,
-    gap: usize,
-}
-
-// The answer where no address is accepted.
-fn without(scan: Scan) -> Scanned
-    ensures { λ r. ⌜ Without scan r ⌝ }
+// Zeros for all that "::" stands for: the groups behind it move to the end, the last one first.
+fn spread_out(groups: &mut [u16; 8], count: usize, gap: usize)
+    requires { ⌜ Sized (sofar (now groups) count gap) ⌝ }
+    ensures { λ _. ⌜ now (groups .exit) ≡ spread (sofar (now (groups .entry)) count gap) ⌝ }
 {
-    Scanned {
-        scan,
-        groups: [0; 8],
-    }
-}
-
-// One group more.
-fn pushed(mut partial: Partial, v: u16) -> Partial
-    requires { ⌜ partial .count < 8 ⌝ }
-    ensures { λ r. ⌜ Pushed partial v r ⌝ }
-{
-    let count = partial.count;
-    partial.groups[count] = v;
-    partial.count = count + 1;
-    partial
-}
-
-// "::" behind the groups so far.
-fn gapped(partial: Partial) -> Partial
-    requires { ⌜ partial .count < 8 ⌝ }
-    ensures { λ r. ⌜ Gapped partial r ⌝ }
-{
-    let mut next = pushed(partial, 0);
-    next.gap = next.count;
-    next
-}
-
-// The eight groups that a partial address with "::" stands for: those behind "::" move to the end, the last one first.
-fn eight(partial: Partial) -> [u16; 8]
-    requires { ⌜ Sized partial ⌝ }
-    ensures { λ r. ⌜ r ≡ spread partial ⌝ }
-{
-    let mut groups = partial.groups;
-    let gap = partial.gap;
-    let missing = 8 - partial.count;
-    let mut i = partial.count;
+    let missing = 8 - count;
+    let mut i = count;
     while gap < i {
         i -= 1;
         let v = groups[i];
         groups[i] = 0;
         groups[i + missing] = v;
     }
-    groups
 }
 
 // The address ends at place i.
-fn finished(partial: Partial, i: usize) -> Scanned
-    requires { ⌜ Sized partial × (i < 18446744073709551615) ⌝ }
-    ensures { λ r. ⌜ Closed i (seenOf partial) r ⌝ }
+fn finished(groups: &mut [u16; 8], count: usize, gap: usize, i: usize) -> Scan
+    requires { ⌜ Sized (sofar (now groups) count gap) × (i + 1 < 2 ^ 64) ⌝ }
+    ensures { λ r. ⌜ Closed i (seenOf (sofar (now (groups .entry)) count gap)) r (now (groups .exit)) ⌝ }
 {
-    let count = partial.count;
-    let gap = partial.gap;
     if gap == 0 {
         if count == 8 {
-            let groups = partial.groups;
-            Scanned {
-                scan: Scan::Accepted(0, i + 1),
-                groups,
-            }
+            Scan::Accepted(0, i + 1)
         } else {
-            without(Scan::Refused(i))
+            Scan::Refused(i)
         }
     } else {
-        let groups = eight(partial);
-        Scanned {
-            scan: Scan::Accepted(0, i + 1),
-            groups,
-        }
+        spread_out(groups, count, gap);
+        Scan::Accepted(0, i + 1)
     }
 }
 
 // A group begins at place i.
-fn group(s: &[u8], i: usize, end: u8, partial: Partial) -> Scanned
-    requires { ⌜ Sized partial × (partial .count < 8) ⌝ }
-    ensures { λ r. ⌜ From end (now (s .entry)) i (digits (seenOf partial) 0 0) r ⌝ }
+fn group(s: &[u8], i: usize, end: u8, groups: &mut [u16; 8], count: usize, gap: usize) -> Scan
+    requires { ⌜ Sized (sofar (now groups) count gap) × (count < 8) ⌝ }
+    ensures { λ r. ⌜ From end (now (s .entry)) i (digits (seenOf (sofar (now (groups .entry)) count gap)) 0 0) r (now (groups .exit)) ⌝ }
 {
     let mut v: u16 = 0;
     let mut n: usize = 0;
@@ -131,65 +84,79 @@ fn group(s: &[u8], i: usize, end: u8, partial: Partial) -> Scanned
         let d = hex_value(s[at]);
         if d == 16 {
             if n == 0 {
-                return without(Scan::Refused(at));
+                return Scan::Refused(at);
             }
-            return colon(s, at, end, pushed(partial, v));
+            groups[count] = v;
+            return colon(s, at, end, groups, count + 1, gap);
         }
         if n == 4 {
-            return without(Scan::Refused(at));
+            return Scan::Refused(at);
         }
         v = v * 16 + d as u16;
         n += 1;
         at += 1;
     }
-    without(Scan::More)
+    Scan::More
 }
 
 // A colon part, or the end, stands at place i.
-fn colon(s: &[u8], i: usize, end: u8, partial: Partial) -> Scanned
-    requires { ⌜ Sized partial ⌝ }
-    ensures { λ r. ⌜ From end (now (s .entry)) i (behind (seenOf partial)) r ⌝ }
+fn colon(s: &[u8], i: usize, end: u8, groups: &mut [u16; 8], count: usize, gap: usize) -> Scan
+    requires { ⌜ Sized (sofar (now groups) count gap) ⌝ }
+    ensures { λ r. ⌜ From end (now (s .entry)) i (behind (seenOf (sofar (now (groups .entry)) count gap))) r (now (groups .exit)) ⌝ }
 {
-    let count = partial.count;
-    let gap = partial.gap;
     if s.len() <= i {
-        return without(Scan::More);
+        return Scan::More;
     }
     let c = s[i];
     if c != b':' {
         if c == end {
-            return finished(partial, i);
+            return finished(groups, count, gap, i);
         }
-        return without(Scan::Refused(i));
+        return Scan::Refused(i);
     }
-    if count == 8 {
-        return without(Scan::Refused(i));
+    if 8 <= count {
+        return Scan::Refused(i);
     }
     let next = i + 1;
     if s.len() <= next {
-        return without(Scan::More);
+        return Scan::More;
     }
     if s[next] != b':' {
         if count == 0 {
-            return without(Scan::Refused(next));
+            return Scan::Refused(next);
         }
-        return group(s, next, end, partial);
+        return group(s, next, end, groups, count, gap);
     }
     if 0 < gap {
-        return without(Scan::Refused(next));
+        return Scan::Refused(next);
     }
     let after = next + 1;
-    let partial = gapped(partial);
     if s.len() <= after {
-        return without(Scan::More);
+        return Scan::More;
     }
+    let counted = count + 1;
     if s[after] == end {
-        return finished(partial, after);
+        return finished(groups, counted, counted, after);
     }
-    if count == 7 {
-        return without(Scan::Refused(after));
+    if 7 <= count {
+        return Scan::Refused(after);
     }
-    group(s, after, end, partial)
+    group(s, after, end, groups, counted, counted)
+}
+
+// The answer from the first byte on.
+fn begun(s: &[u8], end: u8, groups: &mut [u16; 8]) -> Scan
+    requires { ⌜ Sized (sofar (now groups) 0 0) ⌝ }
+    ensures { λ r. ⌜ From end (now (s .entry)) 0 start r (now (groups .exit)) ⌝ }
+{
+    if s.len() == 0 {
+        return Scan::More;
+    }
+    if s[0] == b':' {
+        colon(s, 0, end, groups, 0, 0)
+    } else {
+        group(s, 0, end, groups, 0, 0)
+    }
 }
 
 // An address that the byte end ends.
@@ -197,17 +164,12 @@ pub fn address(s: &[u8], end: u8) -> Scanned
     ensures verdict { λ r. ⌜ ((k : ℕ) → toldAddress k r ≡ run k (step end) (now (s .entry)) start) ⌝ }
     ensures unused { λ r. ⌜ Unused (r .scan) (r .groups) ⌝ }
 {
-    let none = Partial {
-        groups: [0; 8],
-        count: 0,
-        gap: 0,
-    };
-    if s.len() == 0 {
-        return without(Scan::More);
-    }
-    if s[0] == b':' {
-        colon(s, 0, end, none)
+    let mut groups = [0u16; 8];
+    let scan = begun(s, end, &mut groups);
+    if let Scan::Accepted(_, _) = scan {
+        Scanned { scan, groups }
     } else {
-        group(s, 0, end, none)
+        let groups = [0; 8];
+        Scanned { scan, groups }
     }
 }

@@ -6,3 +6,4 @@ pub mod AddressBlock
 pub mod AddressBlockLaws
 pub mod Placed
 pub mod PlacedLaws
+pub mod Table
