@@ -71,6 +71,7 @@ pub record Shortened (f vs : List ℕ) : Type 0 where
   pub seven : length before + length behind ≤ 7
   pub value : vs ≡ filled before behind
 
+-- so there is "No single colon at either end" and "No dotted tail"
 abbrev pub Address : List ℕ → List ℕ → Type 0
 Address f vs = Full f vs ⊎ Shortened f vs
 

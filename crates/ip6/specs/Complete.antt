@@ -35,7 +35,8 @@ module _ (end : ℕ) (e : Ending end) where
       by false t =
           let few : length l < 8 = let n = eqb-false (length l) 8 t in omega arith in
           let r = colon-completes l in
-          (58, r .0, r .1, colon-no-digit, goes end (behind (plain l)) (colon (plain l)) 58 (r .0) (r .1) (follow-colon end (plain l) (lt-ltb (length l) 8 few)) (r .2))
+          let on = goes end (behind (plain l)) (colon (plain l)) 58 (r .0) (r .1) (follow-colon end (plain l) (lt-ltb (length l) 8 few)) (r .2) in
+          (58, r .0, r .1, colon-no-digit, on)
   behind-closes (gapped l r) h = (end, [], filled l r, e .no-digit, ends end (behind (gapped l r)) end (filled l r) (follow-end end e (gapped l r)))
 
   -- in a group, behind a digit

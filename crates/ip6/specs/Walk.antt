@@ -104,7 +104,8 @@ module _ (end : ℕ) (e : Ending end) where
   left-walk (v ∷ l) f t vs a h r =
       group-start (f ++ 58 ∷ 58 ∷ t) vs
       (groups-walk (v ∷ l) f (plain []) 58 (58 ∷ t) vs a (omega arith) colon-no-digit
-      (goes end (behind (plain (v ∷ l))) (colon (plain (v ∷ l))) 58 (58 ∷ t) vs (follow-colon end (plain (v ∷ l)) (lt-ltb (length (v ∷ l)) 8 (omega arith)))
+      (goes end (behind (plain (v ∷ l))) (colon (plain (v ∷ l))) 58 (58 ∷ t) vs
+      (follow-colon end (plain (v ∷ l)) (lt-ltb (length (v ∷ l)) 8 (omega arith)))
       (goes end (colon (plain (v ∷ l))) (gap (v ∷ l)) 58 t vs refl r)))
 
   full-walk : (f vs : List ℕ) → Full f vs → Takes end start (f ++ end ∷ []) vs

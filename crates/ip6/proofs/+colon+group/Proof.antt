@@ -244,7 +244,8 @@ module _ (t : ℕ) where
   group-returns-2 c =
       let at = c .before .before .before .before in
       head at .loop .inv .4 _ _
-      (group-ends (head at .loop .inv .3) (begin at .pre .1 .1) (inside at) (is-none at (c .before .before .before .if1 .taken)) (c .before .before .if2 .left) (c .colon .ensures))
+      (group-ends (head at .loop .inv .3) (begin at .pre .1 .1) (inside at) (is-none at (c .before .before .before .if1 .taken))
+      (c .before .before .if2 .left) (c .colon .ensures))
 
   group-returns-3 : group-lts.Need-returns-3 (group-calls t) (group-at t) group-reads.Post group-Inv-loop group-μ-loop
   group-returns-3 c =

@@ -1,0 +1,10 @@
+pub mod Numeral
+pub mod Addresses
+pub mod Written
+pub mod Drafts
+pub mod NumeralLaws
+pub mod DraftLaws
+pub mod JoinedLaws
+pub mod AddressLaws
+pub mod LineLaws
+pub mod Demand
