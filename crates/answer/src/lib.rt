@@ -82,3 +82,20 @@ pub fn refused(refusal: Refusal, place: usize) -> Reading
         record: blank(Kind::Unspecified),
     }
 }
+
+// Document 01's number of a refusal.
+pub fn number(refusal: Refusal) -> u8
+    ensures { λ r. ⌜ r ≡ numberOf refusal ⌝ }
+{
+    match refusal {
+        Refusal::Start => 1,
+        Refusal::Word => 2,
+        Refusal::Address => 3,
+        Refusal::Port => 4,
+        Refusal::End => 5,
+        Refusal::Command => 6,
+        Refusal::Family => 7,
+        Refusal::Length => 8,
+        Refusal::Tlv => 9,
+    }
+}

@@ -1,0 +1,110 @@
+-- The length is a number that fits the kind, and the address block follows.
+use Prim.Native.Nat.{ℕ, _≤_}
+use mathlib.Core.Path.{_≡_, sym, ap, _∙_}
+use mathlib.Core.Bool.{Bool, true, false}
+use mathlib.Core.List.{List}
+use native.Mathlib.Omega.{arith}
+use borrow.Author.Needs.{needs}
+use lib.ListN.{length, drop, length-drop}
+use Rattle.exact.specs.Claim.{AllBytes, accepted, refused}
+use Rattle.record.specs.declared.Kind.{Kind}
+use Rattle.record.specs.Kinds.{blockLength}
+use Rattle.header.specs.BlockFields.{fits, blockLengthField, addresses, addressed}
+use Rattle.answer.specs.StageLaws.{answers-as, as-refused, as-accepted}
+use Rattle.block.specs.Parts.{numberAt}
+use Rattle.block.specs.Takes.{bytes-of, bytes-drop, next-short, short-at}
+use Rattle.block.specs.Leaves.{number-short, number-full}
+use Rattle.block.specs.KindLaws.{Measures, measured}
+use Rattle.block.proofs.addressed.Statement.{statement}
+use Rattle.block.proofs.addressed.Tie as tie
+
+module _ (c : tie.After-shared-slice-known) where
+  abbrev text : List ℕ
+  text = c .before .args .s .now
+
+  abbrev kind : Kind
+  kind = c .before .args .kind
+
+  fields : Measures (c .before .args .lengths) (blockLength kind)
+  fields = measured kind (c .before .args .lengths) (c .before .pre .0)
+
+  all : AllBytes text
+  all = bytes-of text (c .shared-slice-known .given)
+
+module _ (c : tie.After-fits2) where
+  abbrev start : tie.After-shared-slice-known
+  start = c .before .before .before
+
+  abbrev size : ℕ
+  size = c .before .number .result
+
+  head : 2 ≤ length (drop 14 (text start))
+  head = let left = length-drop 14 (text start) in let h = c .before .before .if1 .left in omega arith
+
+  judged : fits (blockLength (kind start)) size ≡ c .fits2 .result
+  judged = ap (λ (a : ℕ). fits a size) (sym (fields start .block)) ∙ sym (c .fits2 .ensures)
+
+  -- the same of the number in the bytes
+  there : (b : Bool) → c .fits2 .result ≡ b → fits (blockLength (kind start)) (numberAt (drop 14 (text start))) ≡ b
+  there b e = ap (fits (blockLength (kind start))) (sym (c .before .number .ensures)) ∙ judged ∙ e
+
+more-requires : tie.Need-more-requires
+more-requires c κs = search needs
+
+returns : tie.Need-returns
+returns c =
+    let ran = c .before .before in
+    answers-as (c .more .ensures (text ran))
+    (short-at (addressed (kind ran) .verdict) 2
+    (next-short (blockLengthField (kind ran) .verdict) (λ n. addresses (kind ran) n .verdict) 2 (number-short (fits (blockLength (kind ran))) 8)) (text ran)
+    (all ran) 14 (let h = c .before .if1 .taken in omega arith))
+
+number-requires : tie.Need-number-requires
+number-requires c κs = search needs
+
+cast-length : tie.Need-cast-length
+cast-length c = search needs
+
+fits-requires : tie.Need-fits-requires
+fits-requires c κs = let f = fields (c .before .before) in omega arith
+
+addresses-requires : tie.Need-addresses-requires
+addresses-requires c κs =
+    let ran = c .before in
+    (start ran .before .pre .0, start ran .before .pre .1, judged ran ∙ c .if2 .taken)
+
+refused-requires : tie.Need-refused-requires
+refused-requires c κs = search needs
+
+returns-2 : tie.Need-returns-2
+returns-2 c =
+    let ran = c .before .before in
+    let s = text (start ran) in
+    let k = kind (start ran) in
+    as-accepted (blockLengthField k) (addresses k) s 14 (size ran) 2
+    (ap (λ (n : ℕ). accepted n 2) (ran .before .number .ensures)
+    ∙ sym (number-full (fits (blockLength k)) 8 true (drop 14 s) (bytes-drop 14 s (all (start ran))) (head ran) (there ran true (c .before .if2 .taken))))
+    (c .addresses .ensures)
+
+returns-3 : tie.Need-returns-3
+returns-3 c =
+    let ran = c .before .before in
+    let s = text (start ran) in
+    let k = kind (start ran) in
+    as-refused (blockLengthField k) (addresses k) s 14 8 1
+    (sym (number-full (fits (blockLength k)) 8 false (drop 14 s) (bytes-drop 14 s (all (start ran))) (head ran) (there ran false (c .before .if2 .left))))
+    (c .refused .ensures)
+
+pub addressed-spec : {M : Type 1} → statement M
+addressed-spec =
+    tie.close
+    (tie.spec
+    more-requires
+    returns
+    number-requires
+    cast-length
+    fits-requires
+    addresses-requires
+    refused-requires
+    returns-2
+    returns-3)

@@ -1,0 +1,164 @@
+-- The address block has the kind's length, and the TLVs behind it are a region.
+use Prim.Native.Nat.{ℕ, _+_, _-_, _≤_, _<_}
+use mathlib.Core.Path.{_≡_}
+use mathlib.Core.List.{List}
+use native.Mathlib.Omega.{arith}
+use borrow.Author.Needs.{needs}
+use lib.ListN.{length, drop}
+use Rattle.exact.specs.Claim.{AllBytes, more, refused}
+use Rattle.exact.specs.Parser.{reach}
+use Rattle.exact.specs.Told.{told}
+use Rattle.exact.specs.declared.Scan.{Scan}
+use Rattle.tlv.specs.Region.{judge}
+use Rattle.record.specs.declared.Kind.{Kind}
+use Rattle.record.specs.Kinds.{blockLength}
+use Rattle.header.specs.BlockFields.{addresses}
+use Rattle.answer.specs.StageLaws.{answers-as, said}
+use Rattle.block.specs.Takes.{bytes-of, short-at}
+use Rattle.block.specs.Leaves.{fits-over}
+use Rattle.block.specs.KindLaws.{Measures, measured}
+use Rattle.block.specs.Addresses.{Reached, addresses-short, tlvs-more, tlvs-refused, tlvs-accepted, tlvs-inside}
+use Rattle.block.proofs.addresses.Statement.{statement}
+use Rattle.block.proofs.addresses.Tie as tie
+
+module _ (c : tie.After-shared-slice-known) where
+  abbrev text : List ℕ
+  text = c .before .args .s .now
+
+  abbrev kind : Kind
+  kind = c .before .args .kind
+
+  abbrev size : ℕ
+  size = c .before .args .length
+
+  abbrev block : ℕ
+  block = c .before .args .lengths .block
+
+  fields : Measures (c .before .args .lengths) (blockLength kind)
+  fields = measured kind (c .before .args .lengths) (c .before .pre .0)
+
+  all : AllBytes text
+  all = bytes-of text (c .shared-slice-known .given)
+
+module _ (c : tie.After-region) where
+  abbrev start : tie.After-shared-slice-known
+  start = c .before .before .before .before .before
+
+  here : Reached (kind start) (size start) (block start) (text start)
+  here =
+      record {
+        bytes = all start;
+        block = fields start .block;
+        some = start .before .pre .1;
+        whole = c .before .before .before .if1 .left;
+        fit = start .before .pre .2;
+      }
+
+  found : (x : Scan) → c .region .result ≡ x → told 9 x ≡ judge 9 (size start - block start) (drop (16 + block start) (text start))
+  found x e = said 9 (judge 9 (size start - block start)) (text start) (16 + block start) e (c .region .ensures 9)
+
+  inside : (x : Scan) → c .region .result ≡ x → 16 + block start + reach (told 9 x) ≤ length (text start)
+  inside x e = tlvs-inside here (told 9 x) (found x e)
+
+add-at : tie.Need-add-at
+add-at c = let f = fields (c .before) in omega arith
+
+more-requires : tie.Need-more-requires
+more-requires c κs = search needs
+
+returns : tie.Need-returns
+returns c =
+    let ran = c .before .before .before in
+    let f = fields ran in
+    let few : length (text ran) - 16 < blockLength (kind ran) = omega (arith, ran .before .pre .1, c .before .if1 .taken) in
+    answers-as (c .more .ensures (text ran))
+    (short-at (addresses (kind ran) (size ran) .verdict) (blockLength (kind ran)) (addresses-short (kind ran) (size ran)) (text ran) (all ran) 16 few)
+
+sub-region : tie.Need-sub-region
+sub-region c = search needs
+
+part-region-start : tie.Need-part-region-start
+part-region-start c = search needs
+
+part-region-end : tie.Need-part-region-end
+part-region-end c = search needs
+
+sub-region-2 : tie.Need-sub-region-2
+sub-region-2 c =
+    let ran = c .before .before .before .before in
+    let f = fields ran in
+    omega (arith, fits-over (blockLength (kind ran)) (size ran) (ran .before .pre .2))
+
+region-requires : tie.Need-region-requires
+region-requires c κs = search needs
+
+enum-told : tie.Need-enum-told
+enum-told c = search needs
+
+more-requires-2 : tie.Need-more-requires-2
+more-requires-2 c κs = search needs
+
+enum-known-place : tie.Need-enum-known-place
+enum-known-place c = search needs
+
+add-refused : tie.Need-add-refused
+add-refused c = omega (arith, inside (c .before .before .before) _ (c .before .place .given .1))
+
+refused-requires : tie.Need-refused-requires
+refused-requires c κs = search needs
+
+enum-known-n : tie.Need-enum-known-n
+enum-known-n c = search needs
+
+add-accepted : tie.Need-add-accepted
+add-accepted c = omega (arith, inside (c .before .before .before) _ (c .before .n .given .1))
+
+connection-requires : tie.Need-connection-requires
+connection-requires c κs =
+    let ran = c .before .before .before in
+    let f = fields (start ran) in
+    let w = here ran .whole in
+    (start ran .before .pre .0, omega arith)
+
+accepted-requires : tie.Need-accepted-requires
+accepted-requires c κs = search needs
+
+returns-2 : tie.Need-returns-2
+returns-2 c =
+    let ran = c .before .before .before in
+    tlvs-more (here ran) (found ran _ (c .before .enum-told .given .1)) (c .more2 .ensures)
+
+returns-3 : tie.Need-returns-3
+returns-3 c =
+    let ran = c .before .before .before .before in
+    tlvs-refused (here ran) _ (found ran _ (c .before .before .place .given .1)) (c .refused .ensures)
+
+returns-4 : tie.Need-returns-4
+returns-4 c =
+    let ran = c .before .before .before .before .before in
+    tlvs-accepted (here ran) _ _ _ (found ran _ (c .before .before .before .n .given .1)) (c .before .connection .ensures) (c .accepted .ensures)
+
+pub addresses-spec : {M : Type 1} → statement M
+addresses-spec =
+    tie.close
+    (tie.spec
+    add-at
+    more-requires
+    returns
+    sub-region
+    part-region-start
+    part-region-end
+    sub-region-2
+    region-requires
+    enum-told
+    more-requires-2
+    enum-known-place
+    add-refused
+    refused-requires
+    enum-known-n
+    add-accepted
+    connection-requires
+    accepted-requires
+    returns-2
+    returns-3
+    returns-4)

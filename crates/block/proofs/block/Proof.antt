@@ -1,0 +1,91 @@
+-- The signature is a literal field of twelve bytes, and byte 12 follows.
+use Prim.Native.Nat.{ℕ}
+use mathlib.Core.Path.{_≡_, sym, ap, _∙_, subst}
+use mathlib.Core.List.{List}
+use borrow.Author.Needs.{needs}
+use lib.ListN.{length, drop}
+use Rattle.exact.specs.Claim.{Verdict, accepted}
+use Rattle.exact.specs.Field.{Exact, shift}
+use Rattle.exact.specs.Parser.{Parser, _then_}
+use Rattle.exact.specs.Told.{told}
+use Rattle.exact.specs.declared.Scan.{Scan}
+use Rattle.header.specs.Header.{Header}
+use Rattle.header.specs.BlockFields.{signatureField, command, commandRest}
+use Rattle.answer.specs.StageLaws.{answers-as, first-more, first-refused, first-accepted}
+use Rattle.block.proofs.block.Statement.{statement}
+use Rattle.block.proofs.block.Tie as tie
+
+abbrev rest : ℕ → Parser Header
+rest u = command then commandRest
+
+-- a whole signature has twelve bytes
+twelve : (s : List ℕ) (v n : ℕ) → accepted v n ≡ signatureField .verdict s → n ≡ 12
+twelve s v n e =
+    let x : Exact (signatureField .field) (accepted v n) s =
+    subst (λ (w : Verdict ℕ). Exact (signatureField .field) w s) (sym e) (signatureField .exact s)
+    in
+    sym (x .size) ∙ ap length (x .whole .0)
+
+module _ (c : tie.After-literal) where
+  abbrev text : List ℕ
+  text = c .before .before .before .args .s .now
+
+  found : (x : Scan) → c .literal .result ≡ x → told 1 x ≡ signatureField .verdict text
+  found x e = ap (told 1) (sym e) ∙ c .literal .ensures 1
+
+slice-aggregate-literal : tie.Need-slice-aggregate-literal
+slice-aggregate-literal c = search needs
+
+literal-requires : tie.Need-literal-requires
+literal-requires c κs = search needs
+
+enum-told : tie.Need-enum-told
+enum-told c = search needs
+
+more-requires : tie.Need-more-requires
+more-requires c κs = search needs
+
+enum-known-place : tie.Need-enum-known-place
+enum-known-place c = search needs
+
+refused-requires : tie.Need-refused-requires
+refused-requires c κs = search needs
+
+enum-told-2 : tie.Need-enum-told-2
+enum-told-2 c = search needs
+
+command-requires : tie.Need-command-requires
+command-requires c κs = search needs
+
+returns : tie.Need-returns
+returns c =
+    let ran = c .before .before .before in
+    first-more signatureField rest (text ran) (found ran _ (c .before .enum-told .given .1)) (c .more .ensures)
+
+returns-2 : tie.Need-returns-2
+returns-2 c =
+    let ran = c .before .before .before .before in
+    first-refused signatureField rest (text ran) 1 _ (found ran _ (c .before .before .place .given .1)) (c .refused .ensures)
+
+returns-3 : tie.Need-returns-3
+returns-3 c =
+    let ran = c .before .before .before in
+    let whole = found ran _ (c .before .enum-told2 .given .1) in
+    first-accepted signatureField rest (text ran) _ _ whole
+    (answers-as (c .command .ensures) (ap (λ (n : ℕ). shift n (rest 0 .verdict (drop n (text ran)))) (sym (twelve (text ran) _ _ whole))))
+
+pub block-spec : {M : Type 1} → statement M
+block-spec =
+    tie.close
+    (tie.spec
+    slice-aggregate-literal
+    literal-requires
+    enum-told
+    more-requires
+    enum-known-place
+    refused-requires
+    enum-told-2
+    command-requires
+    returns
+    returns-2
+    returns-3)

@@ -1,0 +1,111 @@
+-- Byte 12 is a field that the table of commands gives; under LOCAL any byte follows it.
+use Prim.Native.Nat.{ℕ, _≤_}
+use mathlib.Core.Path.{_≡_, sym, ap, _∙_}
+use mathlib.Core.List.{List}
+use mathlib.Core.Option.{some, none}
+use native.Mathlib.Omega.{arith}
+use borrow.Author.Needs.{needs}
+use borrow.Author.Tests.{ne-eqb}
+use lib.ListN.{length, drop, getD, length-drop}
+use lib.Seq.{getD-drop}
+use Rattle.exact.specs.Claim.{AllBytes}
+use Rattle.exact.specs.Parser.{_then_}
+use Rattle.record.specs.declared.Kind.the-variants.{Local}
+use Rattle.record.specs.Records.{bare}
+use Rattle.header.specs.BlockFields.{local, proxy, commandOf, command, commandRest, anyByte, skipped}
+use Rattle.answer.specs.StageLaws.{answers-as, as-refused, as-accepted}
+use Rattle.block.specs.Takes.{bytes-of, bytes-drop, next-short, short-at, pass-at}
+use Rattle.block.specs.Leaves.{byte-short, byte-full, takes-byte}
+use Rattle.block.specs.Skipped.{skipped-wants}
+use Rattle.block.proofs.command.Statement.{statement}
+use Rattle.block.proofs.command.Tie as tie
+
+module _ (c : tie.After-shared-slice-known) where
+  abbrev text : List ℕ
+  text = c .before .args .s .now
+
+  all : AllBytes text
+  all = bytes-of text (c .shared-slice-known .given)
+
+module _ (c : tie.After-shared-slice-known2) where
+  abbrev start : tie.After-shared-slice-known
+  start = c .before .before
+
+  abbrev rest : List ℕ
+  rest = drop 12 (text start)
+
+  bytes : AllBytes rest
+  bytes = bytes-drop 12 (text start) (all start)
+
+  here : 1 ≤ length rest
+  here = let left = length-drop 12 (text start) in let h = c .before .if1 .left in omega arith
+
+  byte : getD rest 0 0 ≡ getD (text start) 12 0
+  byte = getD-drop 12 (text start) 0 0
+
+more-requires : tie.Need-more-requires
+more-requires c κs = search needs
+
+returns : tie.Need-returns
+returns c =
+    let ran = c .before .before in
+    answers-as (c .more .ensures (text ran))
+    (short-at ((command then commandRest) .verdict) 1
+    (next-short (command .verdict) (λ x. commandRest x .verdict) 1 (byte-short commandOf 6)) (text ran) (all ran) 12
+    (let h = c .before .if1 .taken in omega arith))
+
+shared-slice-read-match : tie.Need-shared-slice-read-match
+shared-slice-read-match c = search needs
+
+skipped-requires : tie.Need-skipped-requires
+skipped-requires c κs = search needs
+
+proxy-requires : tie.Need-proxy-requires
+proxy-requires c κs = search needs
+
+refused-requires : tie.Need-refused-requires
+refused-requires c κs = search needs
+
+returns-2 : tie.Need-returns-2
+returns-2 c =
+    let ran = c .before .before in
+    let s = text (start ran) in
+    as-accepted command commandRest s 12 local 1
+    (sym (byte-full commandOf 6 (some local) (rest ran) (bytes ran) (here ran) (ap commandOf (byte ran ∙ c .before .match .keys1))))
+    (answers-as (c .skipped .ensures)
+    (sym
+    (pass-at (anyByte .verdict) (λ x. skipped (bare Local) .verdict) 1 (λ t. getD t 0 0) (takes-byte 7) s (all (start ran)) 13
+    (λ x. skipped-wants (bare Local)))))
+
+returns-3 : tie.Need-returns-3
+returns-3 c =
+    let ran = c .before .before in
+    let s = text (start ran) in
+    as-accepted command commandRest s 12 proxy 1
+    (sym (byte-full commandOf 6 (some proxy) (rest ran) (bytes ran) (here ran) (ap commandOf (byte ran ∙ c .before .match .keys2))))
+    (c .proxy .ensures)
+
+returns-4 : tie.Need-returns-4
+returns-4 c =
+    let ran = c .before .before in
+    let s = text (start ran) in
+    let x = getD s 12 0 in
+    let others = c .before .match .rest in
+    let unknown : commandOf x ≡ none = simp (ne-eqb x 0x20 (others .0 .1), ne-eqb x 0x21 (others .1)) in
+    as-refused command commandRest s 12 6 0
+    (sym (byte-full commandOf 6 none (rest ran) (bytes ran) (here ran) (ap commandOf (byte ran) ∙ unknown)))
+    (c .refused .ensures)
+
+pub command-spec : {M : Type 1} → statement M
+command-spec =
+    tie.close
+    (tie.spec
+    more-requires
+    returns
+    shared-slice-read-match
+    skipped-requires
+    proxy-requires
+    refused-requires
+    returns-2
+    returns-3
+    returns-4)

@@ -1,0 +1,54 @@
+-- The bytes at the place are the first two behind it.
+use Prim.Native.Nat.{ℕ, _+_, _*_}
+use mathlib.Core.Path.{_≡_, sym, ap, ap₂, _∙_}
+use lib.ListN.{getD}
+use native.Mathlib.Omega.{arith}
+use lib.Seq.{getD-drop}
+use borrow.Author.Needs.{needs}
+use Rattle.block.proofs.number.Statement.{statement}
+use Rattle.block.proofs.number.Tie as tie
+
+shared-slice-read-high : tie.Need-shared-slice-read-high
+shared-slice-read-high c = search needs
+
+cast-high : tie.Need-cast-high
+cast-high c = omega (arith, c .shared-slice-known .given (c .before .args .at))
+
+add-low : tie.Need-add-low
+add-low c = search needs
+
+shared-slice-read-low : tie.Need-shared-slice-read-low
+shared-slice-read-low c = search needs
+
+cast-low : tie.Need-cast-low
+cast-low c = omega (arith, c .shared-slice-known2 .given (c .before .before .args .at + 1))
+
+mul-result : tie.Need-mul-result
+mul-result c =
+    let at = c .before .before .args .at in
+    omega (arith, c .shared-slice-known2 .given at, c .shared-slice-known2 .given (at + 1))
+
+add-result : tie.Need-add-result
+add-result c =
+    let at = c .before .before .args .at in
+    omega (arith, c .shared-slice-known2 .given at, c .shared-slice-known2 .given (at + 1))
+
+returns : tie.Need-returns
+returns c =
+    let s = c .before .before .args .s .now in
+    let at = c .before .before .args .at in
+    let here : at + 0 ≡ at = omega arith in
+    sym (ap₂ (λ (h l : ℕ). h * 256 + l) (getD-drop at s 0 0 ∙ ap (λ (i : ℕ). getD s i 0) here) (getD-drop at s 1 0))
+
+pub number-spec : {M : Type 1} → statement M
+number-spec =
+    tie.close
+    (tie.spec
+    shared-slice-read-high
+    cast-high
+    add-low
+    shared-slice-read-low
+    cast-low
+    mul-result
+    add-result
+    returns)

@@ -1,0 +1,99 @@
+-- Byte 13 is a field that the table of families gives, and what follows goes by its kind.
+use Prim.Native.Nat.{ℕ, _≤_}
+use mathlib.Core.Path.{_≡_, sym, ap, _∙_}
+use mathlib.Core.List.{List}
+use native.Mathlib.Omega.{arith}
+use borrow.Author.Needs.{needs}
+use lib.ListN.{length, drop, getD, length-drop}
+use lib.Seq.{getD-drop}
+use Rattle.exact.specs.Claim.{AllBytes}
+use Rattle.exact.specs.Parser.{_then_}
+use Rattle.record.specs.Kinds.{family}
+use Rattle.header.specs.BlockFields.{familyField, familyRest}
+use Rattle.answer.specs.StageLaws.{answers-as, as-refused, as-accepted}
+use Rattle.block.specs.declared.Family.{Family}
+use Rattle.block.specs.Parts.{toldFamily}
+use Rattle.block.specs.Takes.{bytes-of, bytes-drop, next-short, short-at}
+use Rattle.block.specs.Leaves.{byte-short, byte-full}
+use Rattle.block.proofs.proxy.Statement.{statement}
+use Rattle.block.proofs.proxy.Tie as tie
+
+module _ (c : tie.After-shared-slice-known) where
+  abbrev text : List ℕ
+  text = c .before .args .s .now
+
+  all : AllBytes text
+  all = bytes-of text (c .shared-slice-known .given)
+
+module _ (c : tie.After-family-of) where
+  abbrev start : tie.After-shared-slice-known
+  start = c .before .before .before
+
+  abbrev rest : List ℕ
+  rest = drop 13 (text start)
+
+  here : 1 ≤ length rest
+  here = let left = length-drop 13 (text start) in let h = c .before .before .if1 .left in omega arith
+
+  found : (x : Family) → c .family-of .result ≡ x → family (getD rest 0 0) ≡ toldFamily x
+  found x e = ap family (getD-drop 13 (text start) 0 0) ∙ sym (c .family-of .ensures) ∙ ap toldFamily e
+
+more-requires : tie.Need-more-requires
+more-requires c κs = search needs
+
+returns : tie.Need-returns
+returns c =
+    let ran = c .before .before in
+    answers-as (c .more .ensures (text ran))
+    (short-at ((familyField then familyRest) .verdict) 1
+    (next-short (familyField .verdict) (λ k. familyRest k .verdict) 1 (byte-short family 7)) (text ran) (all ran) 13
+    (let h = c .before .if1 .taken in omega arith))
+
+shared-slice-read-family-of : tie.Need-shared-slice-read-family-of
+shared-slice-read-family-of c = search needs
+
+family-of-requires : tie.Need-family-of-requires
+family-of-requires c κs = search needs
+
+enum-known-kind : tie.Need-enum-known-kind
+enum-known-kind c = search needs
+
+family-rest-requires : tie.Need-family-rest-requires
+family-rest-requires c κs = search needs
+
+enum-told : tie.Need-enum-told
+enum-told c = search needs
+
+refused-requires : tie.Need-refused-requires
+refused-requires c κs = search needs
+
+returns-2 : tie.Need-returns-2
+returns-2 c =
+    let ran = c .before .before .before .before in
+    let s = text (start ran) in
+    as-accepted familyField familyRest s 13 _ 1
+    (sym (byte-full family 7 _ (rest ran) (bytes-drop 13 s (all (start ran))) (here ran) (found ran _ (c .before .before .kind .given .1))))
+    (c .family-rest .ensures)
+
+returns-3 : tie.Need-returns-3
+returns-3 c =
+    let ran = c .before .before .before in
+    let s = text (start ran) in
+    as-refused familyField familyRest s 13 7 0
+    (sym (byte-full family 7 _ (rest ran) (bytes-drop 13 s (all (start ran))) (here ran) (found ran _ (c .before .enum-told .given .1))))
+    (c .refused .ensures)
+
+pub proxy-spec : {M : Type 1} → statement M
+proxy-spec =
+    tie.close
+    (tie.spec
+    more-requires
+    returns
+    shared-slice-read-family-of
+    family-of-requires
+    enum-known-kind
+    family-rest-requires
+    enum-told
+    refused-requires
+    returns-2
+    returns-3)

@@ -1,0 +1,89 @@
+-- The length of the block decides: more while the block is short.
+use Prim.Native.Nat.{ℕ, _+_, _≤_, _<_}
+use mathlib.Core.Path.{ap, _∙_}
+use mathlib.Core.List.{List, []}
+use native.Mathlib.Omega.{arith}
+use borrow.Author.Needs.{needs}
+use lib.ListN.{length, drop}
+use Rattle.exact.specs.Claim.{AllBytes, accepted}
+use Rattle.exact.specs.Field.{shift}
+use Rattle.record.specs.declared.Kind.{Kind}
+use Rattle.record.specs.Records.{bare}
+use Rattle.header.specs.BlockFields.{blocked}
+use Rattle.answer.specs.StageLaws.{answers-as}
+use Rattle.block.specs.Parts.{numberAt}
+use Rattle.block.specs.Takes.{bytes-of}
+use Rattle.block.specs.KindLaws.{bare-kind}
+use Rattle.block.specs.Accepted.{as-block}
+use Rattle.block.specs.Skipped.{skipped-head, skipped-short, skipped-whole}
+use Rattle.block.proofs.skipped.Statement.{statement}
+use Rattle.block.proofs.skipped.Tie as tie
+
+module _ (c : tie.After-shared-slice-known) where
+  abbrev text : List ℕ
+  text = c .before .args .s .now
+
+  abbrev kind : Kind
+  kind = c .before .args .kind
+
+  all : AllBytes text
+  all = bytes-of text (c .shared-slice-known .given)
+
+more-requires : tie.Need-more-requires
+more-requires c κs = search needs
+
+returns : tie.Need-returns
+returns c =
+    let ran = c .before .before in
+    answers-as (c .more .ensures (text ran)) (skipped-head (bare (kind ran)) (text ran) (all ran) (c .before .if1 .taken))
+
+number-requires : tie.Need-number-requires
+number-requires c κs = search needs
+
+cast-end : tie.Need-cast-end
+cast-end c = search needs
+
+add-end : tie.Need-add-end
+add-end c = search needs
+
+more-requires-2 : tie.Need-more-requires-2
+more-requires-2 c κs = search needs
+
+returns-2 : tie.Need-returns-2
+returns-2 c =
+    let ran = c .before .before .before .before in
+    let few : length (text ran) < 16 + numberAt (drop 14 (text ran)) = let size = c .before .before .number .ensures in omega arith in
+    answers-as (c .more2 .ensures (text ran)) (skipped-short (bare (kind ran)) (text ran) (all ran) (c .before .before .before .if1 .left) few)
+
+blank-requires : tie.Need-blank-requires
+blank-requires c κs = search needs
+
+accepted-requires : tie.Need-accepted-requires
+accepted-requires c κs = search needs
+
+returns-3 : tie.Need-returns-3
+returns-3 c =
+    let ran = c .before .before .before .before .before in
+    let size = c .before .before .before .number .ensures in
+    let end = 16 + c .before .before .before .number .result in
+    let whole : end ≤ length (text ran) = omega arith in
+    answers-as
+    (as-block (text ran) end (c .before .blank .result) (bare (kind ran)) [] (c .before .blank .ensures) (bare-kind (kind ran) (ran .before .pre) .0 _)
+    (c .accepted .ensures))
+    (ap (λ (n : ℕ). shift (16 + n) (accepted (blocked (bare (kind ran)) []) 0)) size
+    ∙ skipped-whole (bare (kind ran)) (text ran) (all ran) (rw size at whole))
+
+pub skipped-spec : {M : Type 1} → statement M
+skipped-spec =
+    tie.close
+    (tie.spec
+    more-requires
+    returns
+    number-requires
+    cast-end
+    add-end
+    more-requires-2
+    returns-2
+    blank-requires
+    accepted-requires
+    returns-3)

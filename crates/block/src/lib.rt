@@ -1,0 +1,257 @@
+// The version 2 header, a field at a time (document 01, "The binary block"): a stage reads its field and hands on to the next, and
+// what it answers is the verdict on the fields from its place on. No public function has a `requires`.
+use answer::Reading;
+use answer::Refusal;
+use answer::Verdict;
+use answer::blank;
+use answer::more;
+use answer::refused;
+use exact::Scan;
+use exact::literal;
+use record::Kind;
+use record::Record;
+use record::Transport;
+use tlv::region;
+ghost use mathlib.Core.Path.{_≡_};
+ghost use mathlib.Core.Bool.{true};
+ghost use mathlib.Core.List.{List};
+ghost use Prim.Native.Nat.{ℕ, _+_, _≤_};
+ghost use lib.ListN.{length, drop, take};
+ghost use Rattle.exact.specs.Claim.{accepted as acceptedOf};
+ghost use Rattle.exact.specs.Field.{shift};
+ghost use Rattle.exact.specs.Parser.{_then_};
+ghost use Rattle.record.specs.Kinds.{family, blockLength};
+ghost use Rattle.record.specs.Records.{held, bare};
+ghost use Rattle.header.specs.BlockFields.{blocked, block as blockField, command as commandField, commandRest, familyField, familyRest, skipped as skippedField, addressed as addressedField, addresses as addressesField, fits as fitsIn};
+ghost use Rattle.answer.specs.Answers.{Answers, areaOf};
+ghost use Rattle.block.specs.Parts.{toldFamily, lengthsOf, numberAt, portAt, recordAt};
+
+// What byte 13 says under PROXY.
+enum Family {
+    Known(Kind),
+    Unknown,
+}
+
+// How many bytes an address, a port and the whole address block of a kind have.
+struct Lengths {
+    address: usize,
+    port: usize,
+    block: usize,
+}
+
+fn family_of(byte: u8) -> Family
+    ensures { λ r. ⌜ toldFamily r ≡ family byte ⌝ }
+{
+    match byte {
+        0x00 => Family::Known(Kind::Unspecified),
+        0x11 => Family::Known(Kind::Ip4(Transport::Stream)),
+        0x12 => Family::Known(Kind::Ip4(Transport::Datagram)),
+        0x21 => Family::Known(Kind::Ip6(Transport::Stream)),
+        0x22 => Family::Known(Kind::Ip6(Transport::Datagram)),
+        0x31 => Family::Known(Kind::Unix(Transport::Stream)),
+        0x32 => Family::Known(Kind::Unix(Transport::Datagram)),
+        _ => Family::Unknown,
+    }
+}
+
+fn lengths_of(kind: Kind) -> Lengths
+    ensures { λ r. ⌜ r ≡ lengthsOf kind ⌝ }
+{
+    match kind {
+        Kind::Local => Lengths {
+            address: 0,
+            port: 0,
+            block: 0,
+        },
+        Kind::Unspecified => Lengths {
+            address: 0,
+            port: 0,
+            block: 0,
+        },
+        Kind::Ip4(_) => Lengths {
+            address: 4,
+            port: 2,
+            block: 12,
+        },
+        Kind::Ip6(_) => Lengths {
+            address: 16,
+            port: 2,
+            block: 36,
+        },
+        Kind::Unix(_) => Lengths {
+            address: 108,
+            port: 0,
+            block: 216,
+        },
+    }
+}
+
+// The number at a place, high byte first.
+fn number(s: &[u8], at: usize) -> u16
+    requires { ⌜ at + 2 ≤ length (now s) ⌝ }
+    ensures { λ r. ⌜ r ≡ numberAt (drop at (now (s .entry))) ⌝ }
+{
+    let high = s[at] as u16;
+    let low = s[at + 1] as u16;
+    high * 256 + low
+}
+
+// The port of n bytes, 2 or none, at a place.
+fn port(s: &[u8], at: usize, n: usize) -> u16
+    requires { ⌜ at + n ≤ length (now s) ⌝ }
+    ensures { λ r. ⌜ r ≡ portAt n (drop at (now (s .entry))) ⌝ }
+{
+    if n < 2 {
+        return 0;
+    }
+    number(s, at)
+}
+
+// The address of n bytes at a place, as a record holds it.
+fn address(s: &[u8], at: usize, n: usize) -> [u8; 108]
+    requires { ⌜ (n ≤ 108) × (at + n ≤ length (now s)) ⌝ }
+    ensures { λ r. ⌜ r ≡ held (take n (drop at (now (s .entry)))) ⌝ }
+{
+    let mut bytes = [0u8; 108];
+    let mut i: usize = 0;
+    while i < n {
+        bytes[i] = s[at + i];
+        i += 1;
+    }
+    bytes
+}
+
+// The record that the address block at 16 says.
+fn connection(s: &[u8], kind: Kind, lengths: Lengths) -> Record
+    requires { ⌜ (lengths ≡ lengthsOf kind) × (16 + blockLength kind ≤ length (now s)) ⌝ }
+    ensures { λ r. ⌜ r ≡ recordAt kind 16 (now (s .entry)) ⌝ }
+{
+    let to = 16 + lengths.address;
+    let p = to + lengths.address;
+    let q = p + lengths.port;
+    Record {
+        kind,
+        source: address(s, 16, lengths.address),
+        destination: address(s, to, lengths.address),
+        source_port: port(s, p, lengths.port),
+        destination_port: port(s, q, lengths.port),
+    }
+}
+
+// "L must be A, or at least A + 3."
+fn fits(length: usize, block: usize) -> bool
+    requires { ⌜ block ≤ 216 ⌝ }
+    ensures { λ r. ⌜ r ≡ fitsIn block length ⌝ }
+{
+    if length == block {
+        return true;
+    }
+    block + 3 <= length
+}
+
+// The answer to bytes that begin with a header of this length and connection.
+fn accepted(length: usize, connection: Record) -> Reading
+    ensures { λ r. ⌜ ((s : List ℕ) → Answers s (acceptedOf (blocked connection (areaOf 2 (connection .kind) (take length s))) length) r) ⌝ }
+{
+    Reading {
+        verdict: Verdict::Accepted { length, version: 2 },
+        record: connection,
+    }
+}
+
+// From 14 on, where the block is not looked at.
+fn skipped(s: &[u8], kind: Kind) -> Reading
+    requires { ⌜ blockLength kind ≡ 0 ⌝ }
+    ensures { λ r. ⌜ Answers (now (s .entry)) (shift 14 (skippedField (bare kind) .verdict (drop 14 (now (s .entry))))) r ⌝ }
+{
+    if s.len() < 16 {
+        return more();
+    }
+    let end = 16 + (number(s, 14) as usize);
+    if s.len() < end {
+        return more();
+    }
+    accepted(end, blank(kind))
+}
+
+// From 16 on: the address block, and the TLVs that fill the rest of the length.
+fn addresses(s: &[u8], kind: Kind, lengths: Lengths, length: usize) -> Reading
+    requires { ⌜ (lengths ≡ lengthsOf kind) × (blockLength kind ≡ 0 → ⊥) × (fitsIn (blockLength kind) length ≡ true) ⌝ }
+    ensures { λ r. ⌜ Answers (now (s .entry)) (shift 16 (addressesField kind length .verdict (drop 16 (now (s .entry))))) r ⌝ }
+{
+    let at = 16 + lengths.block;
+    if s.len() < at {
+        return more();
+    }
+    match region(&s[at..], length - lengths.block) {
+        Scan::More => more(),
+        Scan::Refused(place) => refused(Refusal::Tlv, at + place),
+        Scan::Accepted(_, n) => accepted(at + n, connection(s, kind, lengths)),
+    }
+}
+
+// From 14 on, for a kind with addresses.
+fn addressed(s: &[u8], kind: Kind, lengths: Lengths) -> Reading
+    requires { ⌜ (lengths ≡ lengthsOf kind) × (blockLength kind ≡ 0 → ⊥) ⌝ }
+    ensures { λ r. ⌜ Answers (now (s .entry)) (shift 14 (addressedField kind .verdict (drop 14 (now (s .entry))))) r ⌝ }
+{
+    if s.len() < 16 {
+        return more();
+    }
+    let length = number(s, 14) as usize;
+    if fits(length, lengths.block) {
+        addresses(s, kind, lengths, length)
+    } else {
+        refused(Refusal::Length, 15)
+    }
+}
+
+// From 14 on, under PROXY.
+fn family_rest(s: &[u8], kind: Kind) -> Reading
+    ensures { λ r. ⌜ Answers (now (s .entry)) (shift 14 (familyRest kind .verdict (drop 14 (now (s .entry))))) r ⌝ }
+{
+    let lengths = lengths_of(kind);
+    if lengths.block == 0 {
+        skipped(s, kind)
+    } else {
+        addressed(s, kind, lengths)
+    }
+}
+
+// From byte 13 on, under PROXY.
+fn proxy(s: &[u8]) -> Reading
+    ensures { λ r. ⌜ Answers (now (s .entry)) (shift 13 ((familyField then familyRest) .verdict (drop 13 (now (s .entry))))) r ⌝ }
+{
+    if s.len() <= 13 {
+        return more();
+    }
+    match family_of(s[13]) {
+        Family::Known(kind) => family_rest(s, kind),
+        Family::Unknown => refused(Refusal::Family, 13),
+    }
+}
+
+// From byte 12 on; under LOCAL byte 13 is not looked at.
+fn command(s: &[u8]) -> Reading
+    ensures { λ r. ⌜ Answers (now (s .entry)) (shift 12 ((commandField then commandRest) .verdict (drop 12 (now (s .entry))))) r ⌝ }
+{
+    if s.len() <= 12 {
+        return more();
+    }
+    match s[12] {
+        0x20 => skipped(s, Kind::Local),
+        0x21 => proxy(s),
+        _ => refused(Refusal::Command, 12),
+    }
+}
+
+// Whether s begins with a version 2 header; nothing behind the header is looked at.
+pub fn block(s: &[u8]) -> Reading
+    ensures { λ r. ⌜ Answers (now (s .entry)) (blockField .verdict (now (s .entry))) r ⌝ }
+{
+    match literal(s, b"\r\n\r\n\0\r\nQUIT\n") {
+        Scan::More => more(),
+        Scan::Refused(place) => refused(Refusal::Start, place),
+        Scan::Accepted(_, _) => command(s),
+    }
+}

@@ -1,0 +1,5 @@
+pub mod Lookup
+pub mod Heads
+pub mod Steps
+pub mod Laws
+pub mod Turn

@@ -1,0 +1,68 @@
+-- The span of each case is the definition's.
+use mathlib.Core.Path.{_≡_, refl, sym, ap, _∙_}
+use Prim.Native.Nat.{ℕ, min}
+use Rattle.reader.specs.AreaLaws.{span-none, old-version, no-block, span-some}
+use borrow.Author.Needs.{needs}
+use Rattle.reader.proofs.area_span.Statement.{statement}
+use Rattle.reader.proofs.area_span.Tie as tie
+
+enum-known-verdict : tie.Need-enum-known-verdict
+enum-known-verdict c = search needs
+
+block-end-requires : tie.Need-block-end-requires
+block-end-requires c κs = search needs
+
+least-requires : tie.Need-least-requires
+least-requires c κs = search needs
+
+least-requires-2 : tie.Need-least-requires-2
+least-requires-2 c κs = search needs
+
+enum-told : tie.Need-enum-told
+enum-told c = search needs
+
+enum-told-2 : tie.Need-enum-told-2
+enum-told-2 c = search needs
+
+returns : tie.Need-returns
+returns c =
+    let start = c .before .before .before .before .before .before .before in
+    let told = c .before .before .before .before in
+    span-none (start .args .reading) (start .args .size) _ (told .verdict .given .1)
+    (no-block (start .args .reading) (start .args .size) _ _ (c .before .before .if1 .taken) (sym (c .before .block-end .ensures) ∙ c .if2 .taken))
+
+returns-2 : tie.Need-returns-2
+returns-2 c =
+    let start = c .before .before .before .before .before .before .before .before .before in
+    let told = c .before .before .before .before .before .before in
+    span-some (start .args .reading) (start .args .size) _ _ _ _ (told .verdict .given .1) (c .before .before .before .before .if1 .taken)
+    (λ z. c .before .before .if2 .left (c .before .before .before .block-end .ensures ∙ z)) (c .before .least .ensures)
+    (c .least2 .ensures ∙ ap (λ (m : ℕ). min m (c .before .least .result)) (c .before .before .before .block-end .ensures))
+
+returns-3 : tie.Need-returns-3
+returns-3 c =
+    let start = c .before .before .before .before .before in
+    span-none (start .args .reading) (start .args .size) _ (c .before .before .verdict .given .1)
+    (old-version (start .args .reading) (start .args .size) _ _ (c .if1 .left))
+
+returns-4 : tie.Need-returns-4
+returns-4 c = let start = c .before .before .before in span-none (start .args .reading) (start .args .size) _ (c .enum-told .given .1) refl
+
+returns-5 : tie.Need-returns-5
+returns-5 c = let start = c .before .before .before in span-none (start .args .reading) (start .args .size) _ (c .enum-told2 .given .1) refl
+
+pub area-span-spec : {M : Type 1} → statement M
+area-span-spec =
+    tie.close
+    (tie.spec
+    enum-known-verdict
+    block-end-requires
+    least-requires
+    least-requires-2
+    enum-told
+    enum-told-2
+    returns
+    returns-2
+    returns-3
+    returns-4
+    returns-5)

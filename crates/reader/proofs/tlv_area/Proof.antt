@@ -1,0 +1,38 @@
+-- The part between the span's ends is the area.
+use mathlib.Core.Path.{_≡_, refl, sym, ap, ap₂, _∙_}
+use mathlib.Core.List.{List}
+use Prim.Native.Nat.{ℕ, _+_, _-_, _≤_}
+use native.Mathlib.Omega.{arith}
+use lib.ListN.{length, take, drop}
+use Rattle.reader.specs.AreaLaws.{area-inside, area-part}
+use borrow.Author.Needs.{needs}
+use Rattle.reader.proofs.tlv_area.Statement.{statement}
+use Rattle.reader.proofs.tlv_area.Tie as tie
+
+area-span-requires : tie.Need-area-span-requires
+area-span-requires c κs = search needs
+
+sub-result : tie.Need-sub-result
+sub-result c = search needs
+
+part-result-start : tie.Need-part-result-start
+part-result-start c = search needs
+
+part-result-end : tie.Need-part-result-end
+part-result-end c =
+    let inside = area-inside (c .before .before .args .reading) (length (c .before .before .args .s .now)) in
+    let ends = c .area-span .ensures in
+    omega arith
+
+returns : tie.Need-returns
+returns c =
+    let start = c .before .before .before in
+    let span = c .before .area-span .ensures in (
+      refl,
+      omega arith,
+      ap₂ (λ (x y : ℕ). take (y - x) (drop x (start .args .s .now))) (span .0) (span .1) ∙ area-part (start .args .reading) (start .args .s .now),
+    )
+
+pub tlv-area-spec : {M : Type 1} → statement M
+tlv-area-spec =
+    tie.close (tie.spec area-span-requires sub-result part-result-start part-result-end returns)

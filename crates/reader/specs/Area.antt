@@ -1,0 +1,42 @@
+-- The TLV area of a reading, as a part of the bytes read (document 01, "The record").
+use mathlib.Core.List.{List, []}
+use Prim.Native.Nat.{ℕ, _+_, min}
+use lib.Dec.{eqb}
+use lib.ListN.{take}
+use Rattle.exact.specs.Pick.{pick}
+use Rattle.record.specs.declared.Kind.{Kind}
+use Rattle.record.specs.declared.Kind.the-variants.{Local, Unspecified, Ip4, Ip6, Unix}
+use Rattle.record.specs.Kinds.{blockLength}
+use Rattle.answer.specs.declared.Verdict.{Verdict}
+use Rattle.answer.specs.declared.Verdict.the-variants.{Accepted, More, Refused}
+use Rattle.answer.specs.declared.Reading.{Reading}
+use Rattle.answer.specs.Answers.{areaOf}
+
+-- "it is empty for version 1, local, unspecified and every verdict but accepted"
+abbrev pub areaBy : Verdict → Kind → List ℕ → List ℕ
+areaBy (Accepted n v) kind s = areaOf v kind (take n s)
+areaBy More kind s = []
+areaBy (Refused k p) kind s = []
+
+abbrev pub readArea : Reading → List ℕ → List ℕ
+readArea r s = areaBy (r .verdict) (r .record .kind) s
+
+-- "from 16 + A": where the address block ends; 0 for a kind without addresses
+abbrev pub blockEnd : Kind → ℕ
+blockEnd Local = 0
+blockEnd Unspecified = 0
+blockEnd (Ip4 t) = 16 + blockLength (Ip4 t)
+blockEnd (Ip6 t) = 16 + blockLength (Ip6 t)
+blockEnd (Unix t) = 16 + blockLength (Unix t)
+
+-- where the area ends, and where it starts, in size bytes read
+abbrev pub endBy : Verdict → Kind → ℕ → ℕ
+endBy (Accepted n v) kind size = pick (eqb v 2) (pick (eqb (blockEnd kind) 0) 0 (min n size)) 0
+endBy More kind size = 0
+endBy (Refused k p) kind size = 0
+
+abbrev pub areaEnd : Reading → ℕ → ℕ
+areaEnd r size = endBy (r .verdict) (r .record .kind) size
+
+abbrev pub areaStart : Reading → ℕ → ℕ
+areaStart r size = min (blockEnd (r .record .kind)) (areaEnd r size)

@@ -1,0 +1,88 @@
+-- For proofs. The part of the bytes between the area's start and its end is the area.
+use mathlib.Core.Path.{_≡_, refl, sym, ap, ap₂, _∙_, subst}
+use mathlib.Core.Bool.{Bool, true, false}
+use mathlib.Core.List.{List, []}
+use Prim.Native.Nat.{ℕ, _+_, _-_, _≤_, min}
+use native.Mathlib.Omega.{arith}
+use lib.Dec.{eqb}
+use lib.ListN.{length, take, drop, getD, length-take, length-drop}
+use lib.Seq.{ext-getD, getD-take, getD-drop}
+use borrow.Author.Tests.{eq-eqb, ne-eqb, eqb-true}
+use Rattle.exact.specs.Pick.{pick}
+use Rattle.record.specs.declared.Kind.{Kind}
+use Rattle.record.specs.declared.Kind.the-variants.{Local, Unspecified, Ip4, Ip6, Unix}
+use Rattle.answer.specs.declared.Verdict.{Verdict}
+use Rattle.answer.specs.declared.Verdict.the-variants.{Accepted, More, Refused}
+use Rattle.answer.specs.declared.Reading.{Reading}
+use Rattle.answer.specs.Answers.{areaOf, blockArea}
+use Rattle.reader.specs.Area.{areaBy, readArea, blockEnd, endBy, areaEnd, areaStart}
+
+end-within : (v : Verdict) (kind : Kind) (size : ℕ) → endBy v kind size ≤ size
+end-within (Accepted n v) kind size = by (eqb v 2) (eqb (blockEnd kind) 0)
+  where
+    by : (b c : Bool) → pick b (pick c 0 (min n size)) 0 ≤ size
+    by true true = omega arith
+    by true false = omega arith
+    by false c = omega arith
+end-within More kind size = omega arith
+end-within (Refused k p) kind size = omega arith
+
+pub area-inside : (r : Reading) (size : ℕ) → (areaStart r size ≤ areaEnd r size) × (areaEnd r size ≤ size)
+area-inside r size = (omega arith, end-within (r .verdict) (r .record .kind) size)
+
+-- a part from m to n, with both cut at the end of the bytes
+part : (s : List ℕ) (m n : ℕ) → take (min n (length s) - min m (min n (length s))) (drop (min m (min n (length s))) s) ≡ drop m (take n s)
+part s m n =
+    ext-getD 0 _ _ (simp (length-take, length-drop) (omega arith))
+    (λ i h.
+    let size = simp (length-take, length-drop) at h in
+    let start : min m (min n (length s)) + i ≡ m + i = omega arith in
+    getD-take (min n (length s) - min m (min n (length s))) (drop (min m (min n (length s))) s) i 0 (omega arith)
+    ∙ getD-drop (min m (min n (length s))) s i 0
+    ∙ ap (λ (j : ℕ). getD s j 0) start
+    ∙ sym (getD-drop m (take n s) i 0 ∙ getD-take n s (m + i) 0 (omega arith)))
+
+-- nothing between 0 and 0
+nothing : (s : List ℕ) (m : ℕ) → take (0 - min m 0) (drop (min m 0) s) ≡ []
+nothing s m = let e : 0 - min m 0 ≡ 0 = omega arith in ap (λ (k : ℕ). take k (drop (min m 0) s)) e
+
+-- the area of an accepted header, by its version and kind
+accepted-part : (n : ℕ) (b : Bool) (kind : Kind) (s : List ℕ)
+    → take (pick b (pick (eqb (blockEnd kind) 0) 0 (min n (length s))) 0 - min (blockEnd kind) (pick b (pick (eqb (blockEnd kind) 0) 0 (min n (length s))) 0))
+    (drop (min (blockEnd kind) (pick b (pick (eqb (blockEnd kind) 0) 0 (min n (length s))) 0)) s) ≡ pick b (blockArea kind (take n s)) []
+accepted-part n false kind s = nothing s (blockEnd kind)
+accepted-part n true Local s = nothing s 0
+accepted-part n true Unspecified s = nothing s 0
+accepted-part n true (Ip4 t) s = part s 28 n
+accepted-part n true (Ip6 t) s = part s 52 n
+accepted-part n true (Unix t) s = part s 232 n
+
+part-by : (v : Verdict) (kind : Kind) (s : List ℕ)
+    → take (endBy v kind (length s) - min (blockEnd kind) (endBy v kind (length s))) (drop (min (blockEnd kind) (endBy v kind (length s))) s) ≡ areaBy v kind s
+part-by (Accepted n v) kind s = accepted-part n (eqb v 2) kind s
+part-by More kind s = nothing s (blockEnd kind)
+part-by (Refused k p) kind s = nothing s (blockEnd kind)
+
+pub area-part : (r : Reading) (s : List ℕ) → take (areaEnd r (length s) - areaStart r (length s)) (drop (areaStart r (length s)) s) ≡ readArea r s
+area-part r s = part-by (r .verdict) (r .record .kind) s
+
+-- ── as the code finds them ──
+module _ (r : Reading) (size : ℕ) where
+  pub span-none : (v : Verdict) → r .verdict ≡ v → endBy v (r .record .kind) size ≡ 0 → (0 ≡ areaStart r size) × (0 ≡ areaEnd r size)
+  span-none v e z =
+      let end : areaEnd r size ≡ 0 = ap (λ (x : Verdict). endBy x (r .record .kind) size) e ∙ z in
+      (omega arith, sym end)
+
+  pub old-version : (n v : ℕ) → (v ≡ 2 → ⊥) → endBy (Accepted n v) (r .record .kind) size ≡ 0
+  old-version n v h = simp (ne-eqb v 2 h)
+
+  pub no-block : (n v : ℕ) → v ≡ 2 → blockEnd (r .record .kind) ≡ 0 → endBy (Accepted n v) (r .record .kind) size ≡ 0
+  no-block n v e z = simp (eq-eqb v 2 e, eq-eqb (blockEnd (r .record .kind)) 0 z)
+
+  pub span-some : (n v x y : ℕ) → r .verdict ≡ Accepted n v → v ≡ 2 → (blockEnd (r .record .kind) ≡ 0 → ⊥) → x ≡ min n size
+      → y ≡ min (blockEnd (r .record .kind)) x → (y ≡ areaStart r size) × (x ≡ areaEnd r size)
+  span-some n v x y e two some end start =
+      let here : areaEnd r size ≡ min n size =
+      ap (λ (w : Verdict). endBy w (r .record .kind) size) e ∙ simp (eq-eqb v 2 two, ne-eqb (blockEnd (r .record .kind)) 0 some)
+      in
+      (start ∙ ap (λ (m : ℕ). min (blockEnd (r .record .kind)) m) (end ∙ sym here), end ∙ sym here)
