@@ -2,8 +2,8 @@
 use borrow.Author.Needs.{needs}
 use native.Mathlib.Omega.{arith}
 use lib.ListN.{length-take}
-use Rattle.judge.proofs.print_front.Statement.{statement}
-use Rattle.judge.proofs.print_front.Tie as tie
+use Rattle.report.proofs.print_front.Statement.{statement}
+use Rattle.report.proofs.print_front.Tie as tie
 
 array-share-prefix-bytes : tie.Need-array-share-prefix-bytes
 array-share-prefix-bytes c = search needs

@@ -1,0 +1,77 @@
+//! Whole headers of every kind, from which the inputs are made.
+pub const SIGNATURE: [u8; 12] = *b"\r\n\r\n\0\r\nQUIT\n";
+
+/// A version 2 header with this command, byte 13 and block.
+pub fn block(command: u8, family: u8, block: &[u8]) -> Vec<u8> {
+    let mut header = SIGNATURE.to_vec();
+    header.extend_from_slice(&[command, family]);
+    header.extend_from_slice(&(block.len() as u16).to_be_bytes());
+    header.extend_from_slice(block);
+    header
+}
+
+pub fn tlv(kind: u8, size: usize) -> Vec<u8> {
+    let mut bytes = vec![kind];
+    bytes.extend_from_slice(&(size as u16).to_be_bytes());
+    bytes.extend((0..size).map(|i| (i * 7 + kind as usize) as u8));
+    bytes
+}
+
+/// Address bytes that are all different, so that a swap shows.
+pub fn addresses(size: usize) -> Vec<u8> {
+    (0..size).map(|i| (i * 11 + 1) as u8).collect()
+}
+
+pub const FAMILIES: [(u8, usize); 6] = [(0x11, 12), (0x12, 12), (0x21, 36), (0x22, 36), (0x31, 216), (0x32, 216)];
+
+fn with_tlvs(size: usize, tlvs: &[Vec<u8>]) -> Vec<u8> {
+    let mut bytes = addresses(size);
+    for tlv in tlvs {
+        bytes.extend_from_slice(tlv);
+    }
+    bytes
+}
+
+pub fn short() -> Vec<Vec<u8>> {
+    let mut all: Vec<Vec<u8>> = [
+        &b"PROXY TCP4 192.168.0.1 192.168.0.11 56324 443\r\n"[..],
+        b"PROXY TCP4 255.255.255.255 255.255.255.255 65535 65535\r\n",
+        b"PROXY TCP4 0.0.0.0 1.20.103.0 0 9\r\n",
+        b"PROXY TCP6 :: :: 0 0\r\n",
+        b"PROXY TCP6 2001:db8::1 ::ffff:c0a8:1 1 65535\r\n",
+        b"PROXY TCP6 1:2:3:4:5:6:7:8 1:2:3:4:5:6:7:: 80 443\r\n",
+        b"PROXY TCP6 ffff:ffff:ffff:ffff:ffff:ffff:ffff:ffff ffff:ffff:ffff:ffff:ffff:ffff:ffff:ffff 65535 65535\r\n",
+        b"PROXY TCP6 aB:00C::0:Ef ::1:2:3:4:5:6:7 10000 2\r\n",
+        b"PROXY UNKNOWN\r\n",
+        b"PROXY UNKNOWN \r\n",
+        b"PROXY UNKNOWN anything \r up \n to here\r\n",
+    ]
+    .map(<[u8]>::to_vec)
+    .to_vec();
+    let mut longest = b"PROXY UNKNOWN ".to_vec();
+    longest.resize(105, b'x');
+    longest.extend_from_slice(b"\r\n");
+    all.push(longest);
+    all.push(block(0x20, 0x00, b""));
+    all.push(block(0x20, 0xff, &addresses(21)));
+    all.push(block(0x21, 0x00, b""));
+    all.push(block(0x21, 0x00, &addresses(7)));
+    for (family, size) in FAMILIES {
+        all.push(block(0x21, family, &addresses(size)));
+        all.push(block(0x21, family, &with_tlvs(size, &[tlv(4, 0), tlv(5, 1), tlv(0x20, 5)])));
+    }
+    all.push(block(0x21, 0x11, &with_tlvs(12, &[tlv(1, 255), tlv(2, 256)])));
+    all.push(block(0x21, 0x11, &with_tlvs(12, &vec![tlv(5, 0); 40])));
+    all
+}
+
+/// Headers with long TLV areas, up to the longest that the program reads whole.
+pub fn long() -> Vec<Vec<u8>> {
+    vec![
+        block(0x21, 0x11, &with_tlvs(12, &[tlv(9, 65_505)])),
+        block(0x21, 0x31, &with_tlvs(216, &[tlv(9, 30_000), tlv(8, 0), tlv(7, 35_295)])),
+        block(0x21, 0x21, &with_tlvs(36, &vec![tlv(5, 0); 21_828])),
+        block(0x20, 0x77, &addresses(65_520)),
+        block(0x21, 0x00, &addresses(65_519)),
+    ]
+}
