@@ -1,5 +1,0 @@
-pub mod Test
-pub mod Step
-pub mod Walk
-pub mod Facts
-pub mod Laws
