@@ -1,7 +1,7 @@
--- For proofs. What follows from a kind: the lengths of its address block, and whether the block is looked at.
-use mathlib.Core.Path.{_≡_, refl, sym, subst}
+-- For proofs. What the length of a kind's address block tells of its TLV area and its fields.
+use mathlib.Core.Path.{_≡_, refl}
 use mathlib.Core.List.{List, []}
-use Prim.Native.Nat.{ℕ, _+_, _≤_}
+use Prim.Native.Nat.{ℕ, _+_}
 use native.Mathlib.Omega.{arith}
 use lib.ListN.{drop}
 use Rattle.record.specs.declared.Kind.{Kind}
@@ -10,25 +10,6 @@ use Rattle.record.specs.Kinds.{blockLength}
 use Rattle.record.specs.Records.{bare}
 use Rattle.header.specs.BlockFields.{skipped, addressed, familyRest}
 use Rattle.answer.specs.Answers.{blockArea}
-use Rattle.block.specs.declared.Lengths.{Lengths}
-use Rattle.block.specs.Parts.{lengthsOf}
-
--- the lengths of a kind whose address block has n bytes
-pub record Measures (l : Lengths) (n : ℕ) : Type 0 where
-  pub address : l .address ≤ 108
-  pub sum : l .address + l .address + l .port + l .port ≡ n
-  pub block : l .block ≡ n
-  pub small : n ≤ 216
-
-measures : (k : Kind) → Measures (lengthsOf k) (blockLength k)
-measures Local = record { address = omega arith; sum = refl; block = refl; small = omega arith }
-measures Unspecified = record { address = omega arith; sum = refl; block = refl; small = omega arith }
-measures (Ip4 t) = record { address = omega arith; sum = refl; block = refl; small = omega arith }
-measures (Ip6 t) = record { address = omega arith; sum = refl; block = refl; small = omega arith }
-measures (Unix t) = record { address = omega arith; sum = refl; block = refl; small = omega arith }
-
-pub measured : (k : Kind) (l : Lengths) → l ≡ lengthsOf k → Measures l (blockLength k)
-measured k l e = subst (λ (m : Lengths). Measures m (blockLength k)) (sym e) (measures k)
 
 -- a kind without an address block
 pub bare-kind : (k : Kind) → blockLength k ≡ 0 → ((f : List ℕ) → blockArea k f ≡ []) × (skipped (bare k) .verdict ≡ familyRest k .verdict)

@@ -5,18 +5,14 @@ use Prim.Native.Nat.{ℕ, zero, suc, _+_, _*_}
 use lib.ListN.{getD, take, drop}
 use Rattle.record.specs.declared.Kind.{Kind}
 use Rattle.record.specs.declared.Record.{Record}
-use Rattle.record.specs.Kinds.{addressLength, portLength, blockLength}
+use Rattle.record.specs.Kinds.{addressLength, portLength}
 use Rattle.record.specs.Records.{recordOf}
 use Rattle.block.specs.declared.Family.{Family}
 use Rattle.block.specs.declared.Family.the-variants.{Known, Unknown}
-use Rattle.block.specs.declared.Lengths.{Lengths}
 
 abbrev pub toldFamily : Family → Option Kind
 toldFamily (Known kind) = some kind
 toldFamily Unknown = none
-
-abbrev pub lengthsOf : Kind → Lengths
-lengthsOf k = record { address = addressLength k; port = portLength k; block = blockLength k }
 
 -- the number that t begins with: "high byte first"
 abbrev pub numberAt : List ℕ → ℕ

@@ -11,6 +11,8 @@ use exact::literal;
 use record::Kind;
 use record::Record;
 use record::Transport;
+use record::address_length;
+use record::block_length;
 use tlv::region;
 ghost use mathlib.Core.Path.{_≡_};
 ghost use mathlib.Core.Bool.{true};
@@ -24,19 +26,12 @@ ghost use Rattle.record.specs.Kinds.{family, blockLength};
 ghost use Rattle.record.specs.Records.{held, bare};
 ghost use Rattle.header.specs.BlockFields.{blocked, block as blockField, command as commandField, commandRest, familyField, familyRest, skipped as skippedField, addressed as addressedField, addresses as addressesField, fits as fitsIn};
 ghost use Rattle.answer.specs.Answers.{Answers, areaOf};
-ghost use Rattle.block.specs.Parts.{toldFamily, lengthsOf, numberAt, portAt, recordAt};
+ghost use Rattle.block.specs.Parts.{toldFamily, numberAt, portAt, recordAt};
 
 // What byte 13 says under PROXY.
 enum Family {
     Known(Kind),
     Unknown,
-}
-
-// How many bytes an address, a port and the whole address block of a kind have.
-struct Lengths {
-    address: usize,
-    port: usize,
-    block: usize,
 }
 
 fn family_of(byte: u8) -> Family
@@ -51,38 +46,6 @@ fn family_of(byte: u8) -> Family
         0x31 => Family::Known(Kind::Unix(Transport::Stream)),
         0x32 => Family::Known(Kind::Unix(Transport::Datagram)),
         _ => Family::Unknown,
-    }
-}
-
-fn lengths_of(kind: Kind) -> Lengths
-    ensures { λ r. ⌜ r ≡ lengthsOf kind ⌝ }
-{
-    match kind {
-        Kind::Local => Lengths {
-            address: 0,
-            port: 0,
-            block: 0,
-        },
-        Kind::Unspecified => Lengths {
-            address: 0,
-            port: 0,
-            block: 0,
-        },
-        Kind::Ip4(_) => Lengths {
-            address: 4,
-            port: 2,
-            block: 12,
-        },
-        Kind::Ip6(_) => Lengths {
-            address: 16,
-            port: 2,
-            block: 36,
-        },
-        Kind::Unix(_) => Lengths {
-            address: 108,
-            port: 0,
-            block: 216,
-        },
     }
 }
 
@@ -121,28 +84,30 @@ fn address(s: &[u8], at: usize, n: usize) -> [u8; 108]
     bytes
 }
 
-// The record that the address block at 16 says.
-fn connection(s: &[u8], kind: Kind, lengths: Lengths) -> Record
-    requires { ⌜ (lengths ≡ lengthsOf kind) × (16 + blockLength kind ≤ length (now s)) ⌝ }
+// The record that the address block at 16 says. What the addresses leave of the block is two ports, or nothing.
+fn connection(s: &[u8], kind: Kind) -> Record
+    requires { ⌜ 16 + blockLength kind ≤ length (now s) ⌝ }
     ensures { λ r. ⌜ r ≡ recordAt kind 16 (now (s .entry)) ⌝ }
 {
-    let to = 16 + lengths.address;
-    let p = to + lengths.address;
-    let q = p + lengths.port;
+    let n = address_length(kind);
+    let m = (block_length(kind) - n - n) / 2;
+    let to = 16 + n;
+    let p = to + n;
+    let q = p + m;
     Record {
         kind,
-        source: address(s, 16, lengths.address),
-        destination: address(s, to, lengths.address),
-        source_port: port(s, p, lengths.port),
-        destination_port: port(s, q, lengths.port),
+        source: address(s, 16, n),
+        destination: address(s, to, n),
+        source_port: port(s, p, m),
+        destination_port: port(s, q, m),
     }
 }
 
 // "L must be A, or at least A + 3."
-fn fits(length: usize, block: usize) -> bool
-    requires { ⌜ block ≤ 216 ⌝ }
-    ensures { λ r. ⌜ r ≡ fitsIn block length ⌝ }
+fn fits(length: usize, kind: Kind) -> bool
+    ensures { λ r. ⌜ r ≡ fitsIn (blockLength kind) length ⌝ }
 {
+    let block = block_length(kind);
     if length == block {
         return true;
     }
@@ -175,32 +140,33 @@ fn skipped(s: &[u8], kind: Kind) -> Reading
 }
 
 // From 16 on: the address block, and the TLVs that fill the rest of the length.
-fn addresses(s: &[u8], kind: Kind, lengths: Lengths, length: usize) -> Reading
-    requires { ⌜ (lengths ≡ lengthsOf kind) × (blockLength kind ≡ 0 → ⊥) × (fitsIn (blockLength kind) length ≡ true) ⌝ }
+fn addresses(s: &[u8], kind: Kind, length: usize) -> Reading
+    requires { ⌜ (blockLength kind ≡ 0 → ⊥) × (fitsIn (blockLength kind) length ≡ true) ⌝ }
     ensures { λ r. ⌜ Answers (now (s .entry)) (shift 16 (addressesField kind length .verdict (drop 16 (now (s .entry))))) r ⌝ }
 {
-    let at = 16 + lengths.block;
+    let block = block_length(kind);
+    let at = 16 + block;
     if s.len() < at {
         return more();
     }
-    match region(&s[at..], length - lengths.block) {
+    match region(&s[at..], length - block) {
         Scan::More => more(),
         Scan::Refused(place) => refused(Refusal::Tlv, at + place),
-        Scan::Accepted(_, n) => accepted(at + n, connection(s, kind, lengths)),
+        Scan::Accepted(_, n) => accepted(at + n, connection(s, kind)),
     }
 }
 
 // From 14 on, for a kind with addresses.
-fn addressed(s: &[u8], kind: Kind, lengths: Lengths) -> Reading
-    requires { ⌜ (lengths ≡ lengthsOf kind) × (blockLength kind ≡ 0 → ⊥) ⌝ }
+fn addressed(s: &[u8], kind: Kind) -> Reading
+    requires { ⌜ (blockLength kind ≡ 0 → ⊥) ⌝ }
     ensures { λ r. ⌜ Answers (now (s .entry)) (shift 14 (addressedField kind .verdict (drop 14 (now (s .entry))))) r ⌝ }
 {
     if s.len() < 16 {
         return more();
     }
     let length = number(s, 14) as usize;
-    if fits(length, lengths.block) {
-        addresses(s, kind, lengths, length)
+    if fits(length, kind) {
+        addresses(s, kind, length)
     } else {
         refused(Refusal::Length, 15)
     }
@@ -210,11 +176,10 @@ fn addressed(s: &[u8], kind: Kind, lengths: Lengths) -> Reading
 fn family_rest(s: &[u8], kind: Kind) -> Reading
     ensures { λ r. ⌜ Answers (now (s .entry)) (shift 14 (familyRest kind .verdict (drop 14 (now (s .entry))))) r ⌝ }
 {
-    let lengths = lengths_of(kind);
-    if lengths.block == 0 {
+    if block_length(kind) == 0 {
         skipped(s, kind)
     } else {
-        addressed(s, kind, lengths)
+        addressed(s, kind)
     }
 }
 

@@ -7,7 +7,7 @@ use Rattle.exact.specs.Machine.{Move, go, done, dead, from}
 use Rattle.exact.specs.declared.Scan.{Scan}
 use Rattle.exact.specs.declared.Scan.the-variants.{Accepted, More, Refused}
 use Rattle.ip6.specs.Machine.{Seen, State, finish, step}
-use Rattle.ip6.specs.Told.{heard}
+use Rattle.exact.specs.Told.{heard}
 
 -- the number beside an accepted address is 0
 abbrev pub Bare : Scan → Type 0

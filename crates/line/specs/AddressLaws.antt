@@ -10,11 +10,10 @@ use Rattle.exact.specs.Field.{Exact, after}
 use Rattle.exact.specs.declared.Scan.{Scan}
 use Rattle.exact.specs.declared.Scan.the-variants.{Accepted, More, Refused}
 use Rattle.exact.specs.Parser.{tail-all}
-use Rattle.text.specs.Told.{heard as heard4}
+use Rattle.exact.specs.Told.{heard}
 use Rattle.text.specs.Ip4.{Address as Ip4Address}
 use Rattle.ip6.specs.Address.{Address as Ip6Text}
 use Rattle.ip6.specs.Bounds.{address-bounds}
-use Rattle.ip6.specs.Told.{heard}
 use Rattle.record.specs.declared.Record.{Record}
 use Rattle.record.specs.Records.{held, recordOf}
 use Rattle.header.specs.Line.{groupBytes}
@@ -41,7 +40,7 @@ abbrev pub padded : List ℕ → List ℕ
 padded o =
     getD o 0 0 ∷ getD o 1 0 ∷ getD o 2 0 ∷ getD o 3 0 ∷ 0 ∷ 0 ∷ 0 ∷ 0 ∷ 0 ∷ 0 ∷ 0 ∷ 0 ∷ 0 ∷ 0 ∷ 0 ∷ 0 ∷ []
 
-pub told4 : (scan : Scan) (octets s : List ℕ) → heard4 3 scan octets ≡ address4 .verdict s
+pub told4 : (scan : Scan) (octets s : List ℕ) → heard 3 scan octets ≡ address4 .verdict s
     → toldFound 4 (record { scan = scan; bytes = padded octets }) ≡ address4 .verdict s
 told4 (Accepted v n) octets s e = ap (λ (o : List ℕ). accepted o n) (four octets (octets-four s octets n e)) ∙ e
 told4 More octets s e = e

@@ -2,14 +2,14 @@
 use mathlib.Core.Path.{_≡_, refl, sym, ap, _∙_}
 use mathlib.Core.Bool.{Bool, true, false}
 use mathlib.Core.List.{List, [], _∷_}
-use Prim.Native.Nat.{ℕ, zero, suc, _+_, _-_}
+use Prim.Native.Nat.{ℕ, suc, _+_, _-_}
 use native.Mathlib.Omega.{arith}
 use borrow.Author.Tests.{eq-eqb, ne-eqb}
-use lib.Dec.{eqb, ltb, leb, leb·zero, leb·suc-zero, leb·suc-suc}
-use lib.ListN.{length, take, length-append}
+use lib.Dec.{ltb, leb, leb·zero, leb·suc-zero, leb·suc-suc}
+use lib.ListN.{length, length-append}
 use Rattle.exact.specs.Pick.{pick}
-use Rattle.tlv.specs.Tlv.{Tlv, written}
-use Rattle.lookup.specs.Lookup.{found, without, firstOf, startOf, lengthOf, lookupBy, lookupIn}
+use Rattle.tlv.specs.Tlv.{Tlv}
+use Rattle.lookup.specs.Lookup.{found, without, firstOf, startOf, lengthOf, lookupIn}
 use Rattle.lookup.specs.declared.Answer.{Answer}
 use Rattle.lookup.specs.declared.Answer.the-variants.{Found, Absent, GaveUp, IllFormed}
 use Rattle.lookup.specs.declared.Examined.{Examined}

@@ -14,7 +14,6 @@ use Rattle.answer.specs.StageLaws.{answers-as, as-refused, as-accepted}
 use Rattle.block.specs.Parts.{numberAt}
 use Rattle.block.specs.Takes.{bytes-of, bytes-drop, next-short, short-at}
 use Rattle.block.specs.Leaves.{number-short, number-full}
-use Rattle.block.specs.KindLaws.{Measures, measured}
 use Rattle.block.proofs.addressed.Statement.{statement}
 use Rattle.block.proofs.addressed.Tie as tie
 
@@ -24,9 +23,6 @@ module _ (c : tie.After-shared-slice-known) where
 
   abbrev kind : Kind
   kind = c .before .args .kind
-
-  fields : Measures (c .before .args .lengths) (blockLength kind)
-  fields = measured kind (c .before .args .lengths) (c .before .pre .0)
 
   all : AllBytes text
   all = bytes-of text (c .shared-slice-known .given)
@@ -41,12 +37,9 @@ module _ (c : tie.After-fits2) where
   head : 2 ≤ length (drop 14 (text start))
   head = let left = length-drop 14 (text start) in let h = c .before .before .if1 .left in omega arith
 
-  judged : fits (blockLength (kind start)) size ≡ c .fits2 .result
-  judged = ap (λ (a : ℕ). fits a size) (sym (fields start .block)) ∙ sym (c .fits2 .ensures)
-
-  -- the same of the number in the bytes
-  there : (b : Bool) → c .fits2 .result ≡ b → fits (blockLength (kind start)) (numberAt (drop 14 (text start))) ≡ b
-  there b e = ap (fits (blockLength (kind start))) (sym (c .before .number .ensures)) ∙ judged ∙ e
+  -- the rule says the same of the number in the bytes
+  judged : (b : Bool) → c .fits2 .result ≡ b → fits (blockLength (kind start)) (numberAt (drop 14 (text start))) ≡ b
+  judged b e = ap (fits (blockLength (kind start))) (sym (c .before .number .ensures)) ∙ sym (c .fits2 .ensures) ∙ e
 
 more-requires : tie.Need-more-requires
 more-requires c κs = search needs
@@ -66,12 +59,12 @@ cast-length : tie.Need-cast-length
 cast-length c = search needs
 
 fits-requires : tie.Need-fits-requires
-fits-requires c κs = let f = fields (c .before .before) in omega arith
+fits-requires c κs = search needs
 
 addresses-requires : tie.Need-addresses-requires
 addresses-requires c κs =
     let ran = c .before in
-    (start ran .before .pre .0, start ran .before .pre .1, judged ran ∙ c .if2 .taken)
+    (start ran .before .pre, sym (ran .fits2 .ensures) ∙ c .if2 .taken)
 
 refused-requires : tie.Need-refused-requires
 refused-requires c κs = search needs
@@ -83,7 +76,7 @@ returns-2 c =
     let k = kind (start ran) in
     as-accepted (blockLengthField k) (addresses k) s 14 (size ran) 2
     (ap (λ (n : ℕ). accepted n 2) (ran .before .number .ensures)
-    ∙ sym (number-full (fits (blockLength k)) 8 true (drop 14 s) (bytes-drop 14 s (all (start ran))) (head ran) (there ran true (c .before .if2 .taken))))
+    ∙ sym (number-full (fits (blockLength k)) 8 true (drop 14 s) (bytes-drop 14 s (all (start ran))) (head ran) (judged ran true (c .before .if2 .taken))))
     (c .addresses .ensures)
 
 returns-3 : tie.Need-returns-3
@@ -92,7 +85,7 @@ returns-3 c =
     let s = text (start ran) in
     let k = kind (start ran) in
     as-refused (blockLengthField k) (addresses k) s 14 8 1
-    (sym (number-full (fits (blockLength k)) 8 false (drop 14 s) (bytes-drop 14 s (all (start ran))) (head ran) (there ran false (c .before .if2 .left))))
+    (sym (number-full (fits (blockLength k)) 8 false (drop 14 s) (bytes-drop 14 s (all (start ran))) (head ran) (judged ran false (c .before .if2 .left))))
     (c .refused .ensures)
 
 pub addressed-spec : {M : Type 1} → statement M

@@ -12,11 +12,10 @@ use Rattle.exact.specs.declared.Scan.{Scan}
 use Rattle.tlv.specs.Region.{judge}
 use Rattle.record.specs.declared.Kind.{Kind}
 use Rattle.record.specs.Kinds.{blockLength}
-use Rattle.header.specs.BlockFields.{addresses}
+use Rattle.header.specs.BlockFields.{addresses, block-small}
 use Rattle.answer.specs.StageLaws.{answers-as, said}
 use Rattle.block.specs.Takes.{bytes-of, short-at}
 use Rattle.block.specs.Leaves.{fits-over}
-use Rattle.block.specs.KindLaws.{Measures, measured}
 use Rattle.block.specs.Addresses.{Reached, addresses-short, tlvs-more, tlvs-refused, tlvs-accepted, tlvs-inside}
 use Rattle.block.proofs.addresses.Statement.{statement}
 use Rattle.block.proofs.addresses.Tie as tie
@@ -31,37 +30,40 @@ module _ (c : tie.After-shared-slice-known) where
   abbrev size : ℕ
   size = c .before .args .length
 
-  abbrev block : ℕ
-  block = c .before .args .lengths .block
-
-  fields : Measures (c .before .args .lengths) (blockLength kind)
-  fields = measured kind (c .before .args .lengths) (c .before .pre .0)
-
   all : AllBytes text
   all = bytes-of text (c .shared-slice-known .given)
 
 module _ (c : tie.After-region) where
-  abbrev start : tie.After-shared-slice-known
-  start = c .before .before .before .before .before
+  abbrev ready : tie.After-block-length
+  ready = c .before .before .before
 
-  here : Reached (kind start) (size start) (block start) (text start)
+  abbrev start : tie.After-shared-slice-known
+  start = ready .before
+
+  abbrev block : ℕ
+  block = ready .block-length .result
+
+  here : Reached (kind start) (size start) block (text start)
   here =
       record {
         bytes = all start;
-        block = fields start .block;
-        some = start .before .pre .1;
-        whole = c .before .before .before .if1 .left;
-        fit = start .before .pre .2;
+        block = ready .block-length .ensures;
+        some = start .before .pre .0;
+        whole = c .before .before .if1 .left;
+        fit = start .before .pre .1;
       }
 
-  found : (x : Scan) → c .region .result ≡ x → told 9 x ≡ judge 9 (size start - block start) (drop (16 + block start) (text start))
-  found x e = said 9 (judge 9 (size start - block start)) (text start) (16 + block start) e (c .region .ensures 9)
+  found : (x : Scan) → c .region .result ≡ x → told 9 x ≡ judge 9 (size start - block) (drop (16 + block) (text start))
+  found x e = said 9 (judge 9 (size start - block)) (text start) (16 + block) e (c .region .ensures 9)
 
-  inside : (x : Scan) → c .region .result ≡ x → 16 + block start + reach (told 9 x) ≤ length (text start)
+  inside : (x : Scan) → c .region .result ≡ x → 16 + block + reach (told 9 x) ≤ length (text start)
   inside x e = tlvs-inside here (told 9 x) (found x e)
 
+block-length-requires : tie.Need-block-length-requires
+block-length-requires c κs = search needs
+
 add-at : tie.Need-add-at
-add-at c = let f = fields (c .before) in omega arith
+add-at c = omega (arith, block-small (kind (c .before)))
 
 more-requires : tie.Need-more-requires
 more-requires c κs = search needs
@@ -69,8 +71,9 @@ more-requires c κs = search needs
 returns : tie.Need-returns
 returns c =
     let ran = c .before .before .before in
-    let f = fields ran in
-    let few : length (text ran) - 16 < blockLength (kind ran) = omega (arith, ran .before .pre .1, c .before .if1 .taken) in
+    let few : length (text ran) - 16 < blockLength (kind ran) =
+    omega (arith, ran .before .pre .0, c .before .before .block-length .ensures, c .before .if1 .taken)
+    in
     answers-as (c .more .ensures (text ran))
     (short-at (addresses (kind ran) (size ran) .verdict) (blockLength (kind ran)) (addresses-short (kind ran) (size ran)) (text ran) (all ran) 16 few)
 
@@ -85,9 +88,8 @@ part-region-end c = search needs
 
 sub-region-2 : tie.Need-sub-region-2
 sub-region-2 c =
-    let ran = c .before .before .before .before in
-    let f = fields ran in
-    omega (arith, fits-over (blockLength (kind ran)) (size ran) (ran .before .pre .2))
+    let ran = c .before .before .before in
+    omega (arith, fits-over (blockLength (kind ran)) (size ran) (ran .before .pre .1), c .before .before .block-length .ensures)
 
 region-requires : tie.Need-region-requires
 region-requires c κs = search needs
@@ -114,11 +116,7 @@ add-accepted : tie.Need-add-accepted
 add-accepted c = omega (arith, inside (c .before .before .before) _ (c .before .n .given .1))
 
 connection-requires : tie.Need-connection-requires
-connection-requires c κs =
-    let ran = c .before .before .before in
-    let f = fields (start ran) in
-    let w = here ran .whole in
-    (start ran .before .pre .0, omega arith)
+connection-requires c κs = search needs
 
 accepted-requires : tie.Need-accepted-requires
 accepted-requires c κs = search needs
@@ -142,6 +140,7 @@ pub addresses-spec : {M : Type 1} → statement M
 addresses-spec =
     tie.close
     (tie.spec
+    block-length-requires
     add-at
     more-requires
     returns

@@ -1,17 +1,30 @@
 -- The two tests are those of the rule.
+use Prim.Native.Nat.{ℕ}
+use mathlib.Core.Path.{_≡_, ap}
+use native.Mathlib.Omega.{arith}
 use borrow.Author.Tests.{eq-eqb, ne-eqb}
 use borrow.Author.Needs.{needs}
+use Rattle.record.specs.Kinds.{blockLength}
+use Rattle.header.specs.BlockFields.{fits, block-small}
 use Rattle.block.proofs.fits.Statement.{statement}
 use Rattle.block.proofs.fits.Tie as tie
 
+module _ (c : tie.After-block-length) where
+  -- the rule by the length at hand is the kind's
+  of-kind : fits (c .block-length .result) (c .before .args .length) ≡ fits (blockLength (c .before .args .kind)) (c .before .args .length)
+  of-kind = ap (λ (a : ℕ). fits a (c .before .args .length)) (c .block-length .ensures)
+
+block-length-requires : tie.Need-block-length-requires
+block-length-requires c κs = search needs
+
 returns : tie.Need-returns
-returns c = simp (eq-eqb _ _ (c .if1 .taken))
+returns c = simp (← of-kind (c .before), eq-eqb _ _ (c .if1 .taken))
 
 add-result : tie.Need-add-result
-add-result c = search needs
+add-result c = omega (arith, block-small (c .before .before .args .kind))
 
 returns-2 : tie.Need-returns-2
-returns-2 c = simp (ne-eqb _ _ (c .if1 .left))
+returns-2 c = simp (← of-kind (c .before), ne-eqb _ _ (c .if1 .left))
 
 pub fits-spec : {M : Type 1} → statement M
-fits-spec = tie.close (tie.spec returns add-result returns-2)
+fits-spec = tie.close (tie.spec block-length-requires returns add-result returns-2)

@@ -13,7 +13,8 @@ use Rattle.exact.specs.Machine.{run, from-start}
 use Rattle.exact.specs.declared.Scan.{Scan}
 use Rattle.exact.specs.declared.Scan.the-variants.{Accepted, More, Refused}
 use Rattle.ip6.specs.Machine.{start, step}
-use Rattle.ip6.specs.Told.{heard, Unused}
+use Rattle.exact.specs.Told.{heard}
+use Rattle.ip6.specs.Told.{Unused}
 use Rattle.ip6.specs.Answer.{From}
 use Rattle.ip6.proofs.address.Statement.{statement}
 use Rattle.ip6.proofs.address.Tie as tie

@@ -1,7 +1,6 @@
 -- `lookup` answers as the definition does: at the loop's head what is left of the answer is the lookup in the TLVs that remain (`Left`).
 use Prim.Native.Nat.{ℕ, _+_, _-_, _≤_, _<_}
 use mathlib.Core.Path.{_≡_, sym, _∙_}
-use mathlib.Core.Bool.{true, false}
 use mathlib.Core.List.{List}
 use native.Mathlib.Omega.{arith}
 use lib.ListN.{length, getD}

@@ -12,9 +12,9 @@ use Rattle.exact.specs.declared.Scan.{Scan}
 use Rattle.exact.specs.declared.Scan.the-variants.{Accepted, More, Refused}
 use Rattle.exact.specs.Pick.{pick}
 use Rattle.exact.specs.Parser.{tail-all}
-use Rattle.exact.specs.Told.{told}
 use Rattle.text.specs.declared.Octets.{Octets}
-use Rattle.text.specs.Told.{heard, toldOctets, Unused}
+use Rattle.exact.specs.Told.{told, heard}
+use Rattle.text.specs.Told.{toldOctets, Unused}
 use Rattle.text.specs.Verdicts.{Within}
 use Rattle.text.specs.DecimalLeaf.{decimalVerdict, decimal-within}
 use Rattle.text.specs.Ip4Leaf.{endOf, ip4Verdict, octetsFrom, octets-start, octets-end, octet-more, octet-refused, octet-accepted}

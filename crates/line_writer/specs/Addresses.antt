@@ -1,0 +1,33 @@
+-- Addresses as the version 1 writer writes them (document 01, "The text line").
+use mathlib.Core.List.{List, [], _∷_, _++_}
+use Prim.Native.Nat.{ℕ, _+_, _*_}
+use lib.ListN.{take}
+use Rattle.exact.specs.Ascii.{ascii}
+use Rattle.line_writer.specs.Numeral.{decimalText, groupText}
+
+-- the texts of numbers, with a separator between two
+abbrev pub joined : (separator : List ℕ) (text : ℕ → List ℕ) → List ℕ → List ℕ
+joined separator text [] = []
+joined separator text (n ∷ []) = text n
+joined separator text (n ∷ m ∷ ns) = text n ++ separator ++ joined separator text (m ∷ ns)
+
+-- "IPv4: four decimals 0 to 255 with dots"
+abbrev pub octetsText : List ℕ → List ℕ
+octetsText octets = joined (ascii ".") decimalText octets
+
+-- "It writes IPv6 as eight groups, lower case, no leading zeros, never "::" (H)"
+abbrev pub groupsText : List ℕ → List ℕ
+groupsText groups = joined (ascii ":") groupText groups
+
+-- the groups of an address's bytes, each in network order: high byte first
+abbrev pub groupsOf : List ℕ → List ℕ
+groupsOf [] = []
+groupsOf (h ∷ []) = []
+groupsOf (h ∷ l ∷ bytes) = (h * 256 + l) ∷ groupsOf bytes
+
+-- the address at the front of a record's array
+abbrev pub ip4Text : List ℕ → List ℕ
+ip4Text held = octetsText (take 4 held)
+
+abbrev pub ip6Text : List ℕ → List ℕ
+ip6Text held = groupsText (groupsOf (take 16 held))

@@ -1,0 +1,124 @@
+-- For proofs. The line that is written for a record that version 1 can carry is a whole line that says it; and how long its parts are.
+use mathlib.Core.Path.{_≡_, refl, sym, ap, ap₂, _∙_, subst}
+use mathlib.Core.Bool.{Bool, true, false}
+use mathlib.Core.List.{List, [], _++_, append-assoc}
+use mathlib.Core.Logic.{inl, inr}
+use Prim.Native.Nat.{ℕ, _-_, _≤_, _<_}
+use native.Mathlib.Omega.{arith}
+use lib.ListN.{length, take, drop, take-append-drop}
+use lib.Seq.{length-take-le}
+use Rattle.exact.specs.Ascii.{ascii}
+use Rattle.exact.specs.Claim.{AllBytes}
+use Rattle.exact.specs.Parser.{bytes-front}
+use Rattle.text.specs.Ip4.{Address as Ip4Address}
+use Rattle.text.specs.Laws.{address-length as ip4-length}
+use Rattle.ip6.specs.Bounds.{address-bounds}
+use Rattle.record.specs.declared.Transport.the-variants.{Stream, Datagram}
+use Rattle.record.specs.declared.Kind.{Kind}
+use Rattle.record.specs.declared.Kind.the-variants.{Local, Unspecified, Ip4, Ip6, Unix}
+use Rattle.record.specs.declared.Record.{Record}
+use Rattle.record.specs.Kinds.{addressLength}
+use Rattle.record.specs.Records.{recordOf, bare, PortFits, Clean, Sized}
+use Rattle.record.specs.AddressBlockLaws.{address-fits, made-again}
+use Rattle.header.specs.Line.{TcpLine, Ip6Address, Line}
+use Rattle.line_writer.specs.declared.Draft.{Draft}
+use Rattle.line_writer.specs.Numeral.{decimalText}
+use Rattle.line_writer.specs.Addresses.{octetsText, groupsText, groupsOf}
+use Rattle.line_writer.specs.Written.{hasForm, tcpText, lineText, writtenLine}
+use Rattle.line_writer.specs.Drafts.{Drafted, addressText, portsText}
+use Rattle.line_writer.specs.NumeralLaws.{numeral-length}
+use Rattle.line_writer.specs.Texts.{decimal-text, octets-text, ip6-text}
+
+-- the address at the front of an array
+module _ (n : ℕ) (fits : n ≤ 108) (a : List ℕ) (size : length a ≡ 108) where
+  front-size : length (take n a) ≡ n
+  front-size = length-take-le n a (omega arith)
+
+  front-bytes : AllBytes a → AllBytes (take n a)
+  front-bytes small = bytes-front (take n a) (drop n a) (subst AllBytes (sym (take-append-drop n a)) small)
+
+module _ (word : List ℕ) (k : Kind) (Address : List ℕ → List ℕ → Type 0) (text : List ℕ → List ℕ)
+    (says : (a : List ℕ) → length a ≡ addressLength k → AllBytes a → Address (text a) a)
+  where
+    -- the text of the address that an array holds
+    abbrev address : List ℕ → List ℕ
+    address a = text (take (addressLength k) a)
+
+    front-says : (a : List ℕ) → length a ≡ 108 → AllBytes a → Address (address a) (take (addressLength k) a)
+    front-says a size small =
+        let fits = address-fits k in
+        says (take (addressLength k) a) (front-size (addressLength k) fits a size) (front-bytes (addressLength k) fits a size small)
+
+    tcp-line : (r : Record) → r .kind ≡ k → Sized r → Clean r → TcpLine word k Address (tcpText word address r) r
+    tcp-line r kind sized clean =
+        let p = sized .source-port in
+        let q = sized .destination-port in
+        record {
+          source = address (r .source);
+          destination = address (r .destination);
+          source-port = _;
+          destination-port = _;
+          split = refl;
+          from = take (addressLength k) (r .source);
+          to = take (addressLength k) (r .destination);
+          p = r .«source_port»;
+          q = r .«destination_port»;
+          whole-source = front-says (r .source) (sized .source) (sized .source-bytes);
+          whole-destination = front-says (r .destination) (sized .destination) (sized .destination-bytes);
+          whole-source-port = decimal-text 65535 (r .«source_port») (omega arith);
+          whole-destination-port = decimal-text 65535 (r .«destination_port») (omega arith);
+          says =
+              sym (made-again r sized clean)
+              ∙ ap (λ (j : Kind). recordOf j (take (addressLength j) (r .source)) (take (addressLength j) (r .destination)) (r .«source_port») (r .«destination_port»)) kind;
+        }
+
+bare-record : (r : Record) → r .kind ≡ Unspecified → Sized r → Clean r → r ≡ bare Unspecified
+bare-record r kind sized clean =
+    let k : Kind → Type 0 = λ (j : Kind). PortFits j (r .«source_port») × PortFits j (r .«destination_port») in
+    let ports = subst k kind (clean .«source_port», clean .«destination_port») in
+    sym (made-again r sized clean)
+    ∙ ap (λ (j : Kind). recordOf j (take (addressLength j) (r .source)) (take (addressLength j) (r .destination)) (r .«source_port») (r .«destination_port»)) kind
+    ∙ ap₂ (λ (p q : ℕ). recordOf Unspecified [] [] p q) (ports .0) (ports .1)
+
+pub tcp4-line : (r : Record) → r .kind ≡ Ip4 Stream → Sized r → Clean r → TcpLine (ascii "TCP4") (Ip4 Stream) Ip4Address (lineText (Ip4 Stream) r) r
+tcp4-line = tcp-line (ascii "TCP4") (Ip4 Stream) Ip4Address octetsText octets-text
+
+pub tcp6-line : (r : Record) → r .kind ≡ Ip6 Stream → Sized r → Clean r → TcpLine (ascii "TCP6") (Ip6 Stream) Ip6Address (lineText (Ip6 Stream) r) r
+tcp6-line = tcp-line (ascii "TCP6") (Ip6 Stream) Ip6Address (λ (a : List ℕ). groupsText (groupsOf a)) ip6-text
+
+pub line-of : (k : Kind) (r : Record) → r .kind ≡ k → hasForm k ≡ true → Sized r → Clean r → Line (lineText k r) r
+line-of Local r kind form sized clean = absurd (let z : _≡_ {A = ℕ} 0 1 = cc in omega arith)
+line-of Unspecified r kind form sized clean = inl (inl refl, bare-record r kind sized clean)
+line-of (Ip4 Stream) r kind form sized clean = inr (inl (tcp4-line r kind sized clean))
+line-of (Ip4 Datagram) r kind form sized clean = absurd (let z : _≡_ {A = ℕ} 0 1 = cc in omega arith)
+line-of (Ip6 Stream) r kind form sized clean = inr (inr (tcp6-line r kind sized clean))
+line-of (Ip6 Datagram) r kind form sized clean = absurd (let z : _≡_ {A = ℕ} 0 1 = cc in omega arith)
+line-of (Unix t) r kind form sized clean = absurd (let z : _≡_ {A = ℕ} 0 1 = cc in omega arith)
+
+-- the ports and the end of a line, behind its front
+parts : (front space p q end : List ℕ) → front ++ (space ++ p ++ space ++ q ++ end) ≡ front ++ space ++ p ++ space ++ q ++ end
+parts front space p q end = simp append-assoc
+
+pub tcp-parts : (word : List ℕ) (address : List ℕ → List ℕ) (r : Record)
+    → ascii "PROXY " ++ word ++ ascii " " ++ address (r .source) ++ ascii " " ++ address (r .destination) ++ portsText (r .«source_port») (r .«destination_port»)
+    ≡ tcpText word address r
+tcp-parts word address r =
+    parts (ascii "PROXY " ++ word ++ ascii " " ++ address (r .source) ++ ascii " " ++ address (r .destination)) (ascii " ")
+    (decimalText (r .«source_port»)) (decimalText (r .«destination_port»)) (ascii "\r\n")
+
+-- the draft of a record's line
+pub drafted-line : (r : Record) {k : Kind} {d : Draft} → r .kind ≡ k → Drafted (lineText k r) d → Drafted (writtenLine r) d
+unfolding writtenLine
+drafted-line r {k} {d} e a = subst (λ (j : Kind). Drafted (lineText j r) d) (sym e) a
+
+-- ── lengths ──
+pub port-length : (p : ℕ) → p < 65536 → length (decimalText p) ≤ 5
+port-length p small = numeral-length 10 (omega arith) 4 p (omega arith)
+
+-- 15 and 39
+pub address-length : (six : Bool) (a : List ℕ) → length a ≡ 108 → AllBytes a → length (addressText six a) ≤ 39
+address-length true a size small =
+    address-bounds _ _ (ip6-text (take 16 a) (front-size 16 (omega arith) a size) (front-bytes 16 (omega arith) a size small) .text) .short
+address-length false a size small =
+    let h = ip4-length _ _ (octets-text (take 4 a) (front-size 4 (omega arith) a size) (front-bytes 4 (omega arith) a size small)) in
+    omega arith

@@ -1,0 +1,5 @@
+pub mod Test
+pub mod Step
+pub mod Walk
+pub mod Facts
+pub mod Laws
