@@ -48,13 +48,13 @@ block-size r s d =
     simp length-append (omega arith)
 
 -- ── bytes ──
-bytes-take : (n : ℕ) (s : List ℕ) → AllBytes s → AllBytes (take n s)
+pub bytes-take : (n : ℕ) (s : List ℕ) → AllBytes s → AllBytes (take n s)
 bytes-take n s b = bytes-front (take n s) (drop n s) (subst AllBytes (sym (take-append-drop n s)) b)
 
-bytes-drop : (n : ℕ) (s : List ℕ) → AllBytes s → AllBytes (drop n s)
+pub bytes-drop : (n : ℕ) (s : List ℕ) → AllBytes s → AllBytes (drop n s)
 bytes-drop n s b = bytes-back (take n s) (drop n s) (subst AllBytes (sym (take-append-drop n s)) b)
 
-byte-at : (s : List ℕ) (i : ℕ) → AllBytes s → getD s i 0 < 256
+pub byte-at : (s : List ℕ) (i : ℕ) → AllBytes s → getD s i 0 < 256
 byte-at [] i b = omega arith
 byte-at (c ∷ s) zero b = b .0
 byte-at (c ∷ s) (suc i) b = byte-at s i (b .1)

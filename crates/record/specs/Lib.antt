@@ -1,9 +1,11 @@
 pub mod Kinds
+pub mod Told
+pub mod Table
 pub mod Records
+pub mod HeldLaws
 pub mod Unused
 pub mod UnusedLaws
 pub mod AddressBlock
 pub mod AddressBlockLaws
 pub mod Placed
 pub mod PlacedLaws
-pub mod Table

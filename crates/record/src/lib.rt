@@ -1,13 +1,16 @@
 // The connection record: a kind, two addresses and two ports (document 01, "The record").
 // No public function has a `requires`.
+mod input;
 mod output;
 mod unused;
 
+pub use input::addresses_of;
 pub use output::put;
 pub use output::put_addresses;
 pub use unused::clean;
 ghost use mathlib.Core.Path.{_≡_};
-ghost use Rattle.record.specs.Kinds.{byteOf, addressLength, portLength, blockLength};
+ghost use Rattle.record.specs.Told.{toldFamily};
+ghost use Rattle.record.specs.Kinds.{family, byteOf, addressLength, portLength, blockLength};
 
 // How a connection carries its bytes.
 pub enum Transport {
@@ -31,6 +34,28 @@ pub struct Record {
     pub destination: [u8; 108],
     pub source_port: u16,
     pub destination_port: u16,
+}
+
+// What byte 13 says under PROXY.
+pub enum Family {
+    Known(Kind),
+    Unknown,
+}
+
+// The kind of byte 13 under PROXY.
+pub fn family_of(byte: u8) -> Family
+    ensures { λ r. ⌜ toldFamily r ≡ family byte ⌝ }
+{
+    match byte {
+        0x00 => Family::Known(Kind::Unspecified),
+        0x11 => Family::Known(Kind::Ip4(Transport::Stream)),
+        0x12 => Family::Known(Kind::Ip4(Transport::Datagram)),
+        0x21 => Family::Known(Kind::Ip6(Transport::Stream)),
+        0x22 => Family::Known(Kind::Ip6(Transport::Datagram)),
+        0x31 => Family::Known(Kind::Unix(Transport::Stream)),
+        0x32 => Family::Known(Kind::Unix(Transport::Datagram)),
+        _ => Family::Unknown,
+    }
 }
 
 // Byte 13 of the kind; unspecified and local are written as 00.
@@ -69,7 +94,7 @@ pub fn address_length(kind: Kind) -> usize
 }
 
 // How many bytes a port of the kind has.
-fn port_length(kind: Kind) -> usize
+pub fn port_length(kind: Kind) -> usize
     ensures { λ r. ⌜ r ≡ portLength kind ⌝ }
 {
     match kind {

@@ -1,0 +1,71 @@
+-- Each arm answers as `areaTest` does at its kind; what `well_formed` ensures is the test of a well-formed area.
+use Prim.Native.Nat.{ℕ}
+use mathlib.Core.Path.{_≡_}
+use mathlib.Core.Bool.{Bool, true}
+use mathlib.Core.List.{List}
+use borrow.Author.Needs.{needs}
+use Rattle.tlv.specs.Tlv.{WellFormed}
+use Rattle.block_writer.specs.Areas.{wellFormedTest}
+use Rattle.block_writer.specs.AreaLaws.{well-formed-test, same-test}
+use Rattle.block_writer.proofs.area_fits.Statement.{statement}
+use Rattle.block_writer.proofs.area_fits.Tie as tie
+
+enum-told : tie.Need-enum-told
+enum-told c = search needs
+
+enum-told-2 : tie.Need-enum-told-2
+enum-told-2 c = search needs
+
+enum-told-3 : tie.Need-enum-told-3
+enum-told-3 c = search needs
+
+well-formed-requires : tie.Need-well-formed-requires
+well-formed-requires c κs = search needs
+
+enum-told-4 : tie.Need-enum-told-4
+enum-told-4 c = search needs
+
+well-formed-requires-2 : tie.Need-well-formed-requires-2
+well-formed-requires-2 c κs = search needs
+
+enum-told-5 : tie.Need-enum-told-5
+enum-told-5 c = search needs
+
+well-formed-requires-3 : tie.Need-well-formed-requires-3
+well-formed-requires-3 c κs = search needs
+
+tested : (b : Bool) (area : List ℕ) → (b ≡ true → WellFormed area) × (WellFormed area → b ≡ true) → b ≡ wellFormedTest area
+tested b area e = same-test b (wellFormedTest area) (e .0) (e .1) (well-formed-test area)
+
+returns : tie.Need-returns
+returns c = rw (c .enum-told .given .1)
+
+returns-2 : tie.Need-returns-2
+returns-2 c = rw (c .enum-told2 .given .1)
+
+returns-3 : tie.Need-returns-3
+returns-3 c = rw (c .before .enum-told3 .given .1) (tested (c .well-formed .result) _ (c .well-formed .ensures))
+
+returns-4 : tie.Need-returns-4
+returns-4 c = rw (c .before .enum-told4 .given .1) (tested (c .well-formed2 .result) _ (c .well-formed2 .ensures))
+
+returns-5 : tie.Need-returns-5
+returns-5 c = rw (c .before .enum-told5 .given .1) (tested (c .well-formed3 .result) _ (c .well-formed3 .ensures))
+
+pub area-fits-spec : {M : Type 1} → statement M
+area-fits-spec =
+    tie.close
+    (tie.spec
+    enum-told
+    enum-told-2
+    enum-told-3
+    well-formed-requires
+    enum-told-4
+    well-formed-requires-2
+    enum-told-5
+    well-formed-requires-3
+    returns
+    returns-2
+    returns-3
+    returns-4
+    returns-5)

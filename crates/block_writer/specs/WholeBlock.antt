@@ -1,0 +1,131 @@
+-- For proofs. What the version 2 writer writes keeps the rules of a block.
+use mathlib.Core.Path.{_≡_, refl, sym, ap, ap₂, _∙_}
+use mathlib.Core.List.{List, [], _∷_, _++_}
+use mathlib.Core.Logic.{inl, inr}
+use mathlib.Core.Option.{some}
+use Prim.Native.Nat.{ℕ, _<_}
+use native.Mathlib.Omega.{arith}
+use lib.ListN.{length, take}
+use Rattle.exact.specs.Network.{network}
+use Rattle.tlv.specs.Laws.{area-bytes}
+use Rattle.record.specs.declared.Transport.the-variants.{Stream, Datagram}
+use Rattle.record.specs.declared.Kind.{Kind}
+use Rattle.record.specs.declared.Kind.the-variants.{Local, Unspecified, Ip4, Ip6, Unix}
+use Rattle.record.specs.declared.Record.{Record}
+use Rattle.record.specs.Kinds.{family, byteOf, addressLength, portLength}
+use Rattle.record.specs.Records.{recordOf, bare}
+use Rattle.record.specs.AddressBlock.{addressBlock}
+use Rattle.record.specs.AddressBlockLaws.{address-size, bytes-take, made-again}
+use Rattle.header.specs.Block.{signature, PROXY, HasAddresses, portBytes, Addresses, AddressBlock, Block}
+use Rattle.block_writer.specs.Written.{commandOf, blockOf, writtenBlock, CarriedByBlock}
+
+proxy-command : (k : Kind) → HasAddresses k → commandOf k ≡ PROXY
+proxy-command Local has = absurd has
+proxy-command Unspecified has = absurd has
+proxy-command (Ip4 t) has = refl
+proxy-command (Ip6 t) has = refl
+proxy-command (Unix t) has = refl
+
+byte-kind : (k : Kind) → HasAddresses k → family (byteOf k) ≡ some k
+byte-kind Local has = absurd has
+byte-kind Unspecified has = absurd has
+byte-kind (Ip4 Stream) has = refl
+byte-kind (Ip4 Datagram) has = refl
+byte-kind (Ip6 Stream) has = refl
+byte-kind (Ip6 Datagram) has = refl
+byte-kind (Unix Stream) has = refl
+byte-kind (Unix Datagram) has = refl
+
+byte-small : (k : Kind) → byteOf k < 256
+byte-small Local = omega arith
+byte-small Unspecified = omega arith
+byte-small (Ip4 Stream) = omega arith
+byte-small (Ip4 Datagram) = omega arith
+byte-small (Ip6 Stream) = omega arith
+byte-small (Ip6 Datagram) = omega arith
+byte-small (Unix Stream) = omega arith
+byte-small (Unix Datagram) = omega arith
+
+port-bytes : (k : Kind) (p : ℕ) → take (portLength k) (network p) ≡ portBytes k p
+port-bytes Local p = refl
+port-bytes Unspecified p = refl
+port-bytes (Ip4 t) p = refl
+port-bytes (Ip6 t) p = refl
+port-bytes (Unix t) p = refl
+
+module _ (r : Record) (area : List ℕ) (w : CarriedByBlock r area) where
+  abbrev k : Kind
+  k = r .kind
+
+  addresses : Addresses k (addressBlock r) r
+  addresses =
+      record {
+        from = take (addressLength k) (r .source);
+        to = take (addressLength k) (r .destination);
+        p = r .«source_port»;
+        q = r .«destination_port»;
+        split =
+            ap₂ (λ (x y : List ℕ). take (addressLength k) (r .source) ++ take (addressLength k) (r .destination) ++ x ++ y)
+            (port-bytes k (r .«source_port»)) (port-bytes k (r .«destination_port»));
+        from-length = address-size k (r .source) (w .sized .source);
+        to-length = address-size k (r .destination) (w .sized .destination);
+        from-bytes = bytes-take (addressLength k) (r .source) (w .sized .source-bytes);
+        to-bytes = bytes-take (addressLength k) (r .destination) (w .sized .destination-bytes);
+        p-fits = w .clean .«source_port»;
+        q-fits = w .clean .«destination_port»;
+        says = sym (made-again r (w .sized) (w .clean));
+      }
+
+  address-block : HasAddresses k → AddressBlock (writtenBlock r area) r area
+  unfolding writtenBlock
+  address-block has =
+      record {
+        kind = k;
+        byte13 = byteOf k;
+        block = addressBlock r;
+        framed = record {
+          split = ap (λ (c : ℕ). signature ++ c ∷ byteOf k ∷ network (length (blockOf r area)) ++ blockOf r area) (proxy-command k has);
+          small = w .small;
+        };
+        byte = byte-small k;
+        table = byte-kind k has;
+        has = has;
+        addresses = addresses;
+        tlvs = w .tlvs;
+      }
+
+-- a kind without addresses or ports leaves nothing else to say
+bare-made : (k : Kind) (p q : ℕ) (r : Record) → recordOf k [] [] p q ≡ r → p ≡ 0 → q ≡ 0 → r ≡ bare k
+bare-made k p q r e x y = sym e ∙ ap₂ (λ (m n : ℕ). recordOf k [] [] m n) x y
+
+-- the record of these parts
+abbrev made : Kind → List ℕ → List ℕ → ℕ → ℕ → Record
+made k source destination p q =
+    record { kind = k; source = source; destination = destination; «source_port» = p; «destination_port» = q }
+
+pub block-of : (k : Kind) (s d : List ℕ) (p q : ℕ) (area : List ℕ) → CarriedByBlock (made k s d p q) area
+    → Block (writtenBlock (made k s d p q) area) (made k s d p q) area
+unfolding writtenBlock
+block-of Local s d p q area w =
+    inl (
+      record { byte13 = 0; block = area; framed = record { split = refl; small = w .small }; byte = omega arith; bytes = area-bytes area (w .tlvs) },
+      bare-made Local p q _ (made-again (made Local s d p q) (w .sized) (w .clean)) (w .clean .«source_port») (w .clean .«destination_port»),
+      w .beside (λ x. x),
+    )
+block-of Unspecified s d p q area w =
+    inr
+    (inl (
+      record {
+        byte13 = 0;
+        block = area;
+        framed = record { split = refl; small = w .small };
+        byte = omega arith;
+        table = refl;
+        bytes = area-bytes area (w .tlvs);
+      },
+      bare-made Unspecified p q _ (made-again (made Unspecified s d p q) (w .sized) (w .clean)) (w .clean .«source_port») (w .clean .«destination_port»),
+      w .beside (λ x. x),
+    ))
+block-of (Ip4 t) s d p q area w = inr (inr (address-block (made (Ip4 t) s d p q) area w tt))
+block-of (Ip6 t) s d p q area w = inr (inr (address-block (made (Ip6 t) s d p q) area w tt))
+block-of (Unix t) s d p q area w = inr (inr (address-block (made (Unix t) s d p q) area w tt))

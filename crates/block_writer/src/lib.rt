@@ -1,0 +1,94 @@
+// The version 2 writer (document 01, "The binary block"). No public function has a `requires`.
+use answer::Fault;
+use answer::Written;
+use record::Kind;
+use record::Record;
+use record::block_length;
+use record::clean;
+use record::kind_byte;
+use record::put;
+use record::put_addresses;
+use tlv::well_formed;
+ghost use mathlib.Core.Path.{_≡_};
+ghost use Prim.Native.Nat.{_<_};
+ghost use lib.ListN.{length};
+ghost use Rattle.record.specs.Placed.{placed};
+ghost use Rattle.block_writer.specs.Areas.{areaTest};
+ghost use Rattle.block_writer.specs.Written.{commandOf, headOf, writtenBlock, blockAnswer, outputAfter};
+
+// Whether the area may stand beside the kind: TLVs fill it, and it is empty beside local and unspecified.
+fn area_fits(kind: Kind, area: &[u8]) -> bool
+    ensures { λ r. ⌜ r ≡ areaTest kind (now (area .entry)) ⌝ }
+{
+    match kind {
+        Kind::Local => area.len() == 0,
+        Kind::Unspecified => area.len() == 0,
+        Kind::Ip4(_) => well_formed(area),
+        Kind::Ip6(_) => well_formed(area),
+        Kind::Unix(_) => well_formed(area),
+    }
+}
+
+// Byte 12: version 2, and LOCAL or PROXY.
+fn command(kind: Kind) -> u8
+    ensures { λ r. ⌜ r ≡ commandOf kind ⌝ }
+{
+    match kind {
+        Kind::Local => 0x20,
+        Kind::Unspecified => 0x21,
+        Kind::Ip4(_) => 0x21,
+        Kind::Ip6(_) => 0x21,
+        Kind::Unix(_) => 0x21,
+    }
+}
+
+// Puts the sixteen bytes before a block of n bytes: the signature, bytes 12 and 13, and the length.
+fn put_head(kind: Kind, n: usize, out: &mut [u8])
+    requires { ⌜ n < 65536 ⌝ }
+    ensures { λ _. ⌜ now (out .exit) ≡ placed (headOf kind n) 0 (now (out .entry)) ⌝ }
+{
+    let head = [
+        0x0D,
+        0x0A,
+        0x0D,
+        0x0A,
+        0x00,
+        0x0D,
+        0x0A,
+        0x51,
+        0x55,
+        0x49,
+        0x54,
+        0x0A,
+        command(kind),
+        kind_byte(kind),
+        (n / 256) as u8,
+        (n % 256) as u8,
+    ];
+    put(&head, out, 0);
+}
+
+// Writes the record with the TLV area behind its address block: how many bytes, or why the output stays as it was.
+pub fn write_block(connection: Record, area: &[u8], out: &mut [u8]) -> Written
+    ensures { λ r. ⌜ (r ≡ blockAnswer connection (now (area .entry)) (length (now (out .entry)))) × (now (out .exit) ≡ outputAfter r (writtenBlock connection (now (area .entry))) (now (out .entry))) ⌝ }
+{
+    let kind = connection.kind;
+    if !clean(connection) {
+        return Written::Refused(Fault::Unused);
+    }
+    if !area_fits(kind, area) {
+        return Written::Refused(Fault::Area);
+    }
+    let block = block_length(kind);
+    if 65535 - block < area.len() {
+        return Written::Refused(Fault::Size);
+    }
+    let n = block + area.len();
+    if out.len() < 16 + n {
+        return Written::Refused(Fault::Room);
+    }
+    put_head(kind, n, out);
+    put_addresses(connection, out, 16);
+    put(area, out, 16 + block);
+    Written::Bytes(16 + n)
+}

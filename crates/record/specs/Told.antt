@@ -1,0 +1,9 @@
+-- The kind that byte 13 was found to be of.
+use mathlib.Core.Option.{Option, some, none}
+use Rattle.record.specs.declared.Kind.{Kind}
+use Rattle.record.specs.declared.Family.{Family}
+use Rattle.record.specs.declared.Family.the-variants.{Known, Unknown}
+
+abbrev pub toldFamily : Family → Option Kind
+toldFamily (Known k) = some k
+toldFamily Unknown = none

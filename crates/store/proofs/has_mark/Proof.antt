@@ -1,0 +1,34 @@
+-- Byte by byte, as `hasMark` tests them.
+use borrow.Author.Tests.{eq-eqb, ne-eqb}
+use borrow.Author.Needs.{needs}
+use Rattle.store.proofs.has_mark.Statement.{statement}
+use Rattle.store.proofs.has_mark.Tie as tie
+
+shared-slice-read-if1 : tie.Need-shared-slice-read-if1
+shared-slice-read-if1 c = search needs
+
+shared-slice-read-if2 : tie.Need-shared-slice-read-if2
+shared-slice-read-if2 c = search needs
+
+shared-slice-read-result : tie.Need-shared-slice-read-result
+shared-slice-read-result c = search needs
+
+returns : tie.Need-returns
+returns c = rw (eq-eqb _ 0x43 (c .before .before .before .if1 .taken), eq-eqb _ 0x53 (c .before .if2 .taken))
+
+returns-2 : tie.Need-returns-2
+returns-2 c = rw (eq-eqb _ 0x43 (c .before .before .if1 .taken), ne-eqb _ 0x53 (c .if2 .left))
+
+returns-3 : tie.Need-returns-3
+returns-3 c = rw (ne-eqb _ 0x43 (c .if1 .left))
+
+pub has-mark-spec : {M : Type 1} → statement M
+has-mark-spec =
+    tie.close
+    (tie.spec
+    shared-slice-read-if1
+    shared-slice-read-if2
+    shared-slice-read-result
+    returns
+    returns-2
+    returns-3)

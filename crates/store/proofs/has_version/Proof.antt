@@ -1,0 +1,21 @@
+-- Byte by byte, as `hasVersion` tests them.
+use borrow.Author.Tests.{eq-eqb, ne-eqb}
+use borrow.Author.Needs.{needs}
+use Rattle.store.proofs.has_version.Statement.{statement}
+use Rattle.store.proofs.has_version.Tie as tie
+
+shared-slice-read-if1 : tie.Need-shared-slice-read-if1
+shared-slice-read-if1 c = search needs
+
+shared-slice-read-result : tie.Need-shared-slice-read-result
+shared-slice-read-result c = search needs
+
+returns : tie.Need-returns
+returns c = rw (eq-eqb _ 0x00 (c .before .if1 .taken))
+
+returns-2 : tie.Need-returns-2
+returns-2 c = rw (ne-eqb _ 0x00 (c .if1 .left))
+
+pub has-version-spec : {M : Type 1} → statement M
+has-version-spec =
+    tie.close (tie.spec shared-slice-read-if1 shared-slice-read-result returns returns-2)

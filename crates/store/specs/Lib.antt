@@ -1,0 +1,5 @@
+pub mod Stored
+pub mod Loading
+pub mod Codes
+pub mod LoadLaws
+pub mod RoundTrip
