@@ -1,6 +1,6 @@
-//! An independent judge of PROXY protocol headers, versions 1 and 2.
+//! An independent judge and writer of PROXY protocol headers, versions 1 and 2.
 //!
-//! It answers as document 01 demands: accepted exactly if some prefix of the
+//! The judge answers as document 01 demands: accepted exactly if some prefix of the
 //! bytes is a whole header; more exactly if none is, but some continuation
 //! begins with one; else refused at the first dead byte, with the number of
 //! the field that holds it.
@@ -13,18 +13,33 @@
 //!   reachability; no rule about dead bytes is written down.
 //! - `whole` takes given bytes apart and tells whether they are a whole
 //!   header, and with which values. An accepted header gets its values here.
+//!
+//! The writers and the stored form build all bytes first and then write them,
+//! or refuse. TLVs are looked into by their list, which is found from the
+//! area's end.
 
+mod address_block;
 pub mod cases;
 mod field;
 mod fixed_bytes;
 mod grammar;
 mod judge;
+mod lookup;
+mod output;
 mod record;
+mod refusal;
+mod stored;
 mod tlv;
+mod tlv_area;
 mod verdict;
 mod whole;
+mod write;
 
 pub use judge::{judge, Judge};
+pub use lookup::{lookup, Answer, Lookup};
 pub use record::{Kind, Record, Transport};
+pub use stored::{load, store};
+pub use tlv_area::{step, tlv_list, Step};
 pub use verdict::{Header, Verdict};
 pub use whole::whole_header;
+pub use write::{write_v1, write_v2};

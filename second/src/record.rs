@@ -40,6 +40,14 @@ impl Kind {
             .map(|(_, kind)| kind)
     }
 
+    /// Byte 13 of a PROXY header of this kind, if it is an address kind.
+    pub fn family_byte(self) -> Option<u8> {
+        ADDRESS_KINDS
+            .into_iter()
+            .find(|&(_, kind)| kind == self)
+            .map(|(family, _)| family)
+    }
+
     /// Bytes of one address.
     pub fn address_length(self) -> usize {
         match self {

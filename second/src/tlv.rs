@@ -6,7 +6,7 @@ use std::ops::RangeInclusive;
 use std::sync::OnceLock;
 
 /// Type and two length bytes.
-const HEAD: usize = 3;
+pub const HEAD: usize = 3;
 
 /// The longest area, and the longest value: both lengths have two bytes.
 const LONGEST: usize = 0xFFFF;

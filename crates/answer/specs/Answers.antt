@@ -1,6 +1,6 @@
 -- The reader's answers in document 01's terms.
 use mathlib.Core.Path.{_≡_}
-use mathlib.Core.List.{List, []}
+use mathlib.Core.List.{List, [], _++_}
 use Prim.Native.Nat.{ℕ, _+_}
 use lib.Dec.{eqb}
 use lib.ListN.{take, drop}
@@ -17,6 +17,8 @@ use Rattle.answer.specs.declared.Refusal.the-variants.{Start, Word, Addr
 use Rattle.answer.specs.declared.Verdict.{Verdict}
 use Rattle.answer.specs.declared.Verdict.the-variants.{Accepted, More, Refused}
 use Rattle.answer.specs.declared.Reading.{Reading}
+use Rattle.answer.specs.declared.Written.{Written}
+use Rattle.answer.specs.declared.Written.the-variants.{Bytes, Refused as Refuses}
 use Rattle.answer.specs.declared.Fault.{Fault}
 use Rattle.answer.specs.declared.Fault.the-variants.{Form, Unused, Area, Size, Room}
 
@@ -39,6 +41,11 @@ faultNumber Unused = 11
 faultNumber Area = 12
 faultNumber Size = 13
 faultNumber Room = 14
+
+-- "Refusals leave the output untouched; on success bytes past the written length stay"
+abbrev pub outputAfter : (answer : Written) (text output : List ℕ) → List ℕ
+outputAfter (Bytes n) text output = text ++ drop n output
+outputAfter (Refuses fault) text output = output
 
 -- "the TLV area is the part from 16 + A to the header's end; it is empty for version 1, local, unspecified"
 abbrev pub blockArea : Kind → List ℕ → List ℕ

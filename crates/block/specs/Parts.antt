@@ -7,12 +7,6 @@ use Rattle.record.specs.declared.Kind.{Kind}
 use Rattle.record.specs.declared.Record.{Record}
 use Rattle.record.specs.Kinds.{addressLength, portLength}
 use Rattle.record.specs.Records.{recordOf}
-use Rattle.block.specs.declared.Family.{Family}
-use Rattle.block.specs.declared.Family.the-variants.{Known, Unknown}
-
-abbrev pub toldFamily : Family → Option Kind
-toldFamily (Known kind) = some kind
-toldFamily Unknown = none
 
 -- the number that t begins with: "high byte first"
 abbrev pub numberAt : List ℕ → ℕ

@@ -8,11 +8,13 @@ use answer::more;
 use answer::refused;
 use exact::Scan;
 use exact::literal;
+use record::Family;
 use record::Kind;
 use record::Record;
 use record::Transport;
 use record::address_length;
 use record::block_length;
+use record::family_of;
 use tlv::region;
 ghost use mathlib.Core.Path.{_≡_};
 ghost use mathlib.Core.Bool.{true};
@@ -26,28 +28,7 @@ ghost use Rattle.record.specs.Kinds.{family, blockLength};
 ghost use Rattle.record.specs.Records.{held, bare};
 ghost use Rattle.header.specs.BlockFields.{blocked, block as blockField, command as commandField, commandRest, familyField, familyRest, skipped as skippedField, addressed as addressedField, addresses as addressesField, fits as fitsIn};
 ghost use Rattle.answer.specs.Answers.{Answers, areaOf};
-ghost use Rattle.block.specs.Parts.{toldFamily, numberAt, portAt, recordAt};
-
-// What byte 13 says under PROXY.
-enum Family {
-    Known(Kind),
-    Unknown,
-}
-
-fn family_of(byte: u8) -> Family
-    ensures { λ r. ⌜ toldFamily r ≡ family byte ⌝ }
-{
-    match byte {
-        0x00 => Family::Known(Kind::Unspecified),
-        0x11 => Family::Known(Kind::Ip4(Transport::Stream)),
-        0x12 => Family::Known(Kind::Ip4(Transport::Datagram)),
-        0x21 => Family::Known(Kind::Ip6(Transport::Stream)),
-        0x22 => Family::Known(Kind::Ip6(Transport::Datagram)),
-        0x31 => Family::Known(Kind::Unix(Transport::Stream)),
-        0x32 => Family::Known(Kind::Unix(Transport::Datagram)),
-        _ => Family::Unknown,
-    }
-}
+ghost use Rattle.block.specs.Parts.{numberAt, portAt, recordAt};
 
 // The number at a place, high byte first.
 fn number(s: &[u8], at: usize) -> u16

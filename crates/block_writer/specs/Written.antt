@@ -58,8 +58,3 @@ blockAnswer r area room =
     (Refused Size))
     (Refused Area))
     (Refused Unused)
-
--- "Refusals leave the output untouched; on success bytes past the written length stay"
-abbrev pub outputAfter : (answer : Written) (text output : List ℕ) → List ℕ
-outputAfter (Bytes n) text output = text ++ drop n output
-outputAfter (Refused fault) text output = output

@@ -14,7 +14,8 @@ ghost use Prim.Native.Nat.{_<_};
 ghost use lib.ListN.{length};
 ghost use Rattle.record.specs.Placed.{placed};
 ghost use Rattle.block_writer.specs.Areas.{areaTest};
-ghost use Rattle.block_writer.specs.Written.{commandOf, headOf, writtenBlock, blockAnswer, outputAfter};
+ghost use Rattle.block_writer.specs.Written.{commandOf, headOf, writtenBlock, blockAnswer};
+ghost use Rattle.answer.specs.Answers.{outputAfter};
 
 // Whether the area may stand beside the kind: TLVs fill it, and it is empty beside local and unspecified.
 fn area_fits(kind: Kind, area: &[u8]) -> bool

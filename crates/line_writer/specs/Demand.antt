@@ -25,7 +25,8 @@ use Rattle.header.specs.Facts.{longest-tcp4, longest-tcp6}
 use Rattle.answer.specs.declared.Fault.the-variants.{Form, Unused, Room}
 use Rattle.answer.specs.declared.Written.{Written}
 use Rattle.answer.specs.declared.Written.the-variants.{Bytes, Refused}
-use Rattle.line_writer.specs.Written.{hasForm, writtenLine, CarriedByLine, lineAnswer, outputAfter}
+use Rattle.line_writer.specs.Written.{hasForm, writtenLine, CarriedByLine, lineAnswer}
+use Rattle.answer.specs.Answers.{outputAfter}
 use Rattle.line_writer.specs.LineLaws.{line-of, tcp4-line, tcp6-line}
 
 -- the line is a whole header that says the record, with version 1 and no TLV area

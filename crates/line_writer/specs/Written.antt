@@ -62,8 +62,3 @@ lineAnswer r room =
     (pick (leb (length (writtenLine r)) room) (Bytes (length (writtenLine r))) (Refused Room))
     (Refused Unused))
     (Refused Form)
-
--- "Refusals leave the output untouched; on success bytes past the written length stay"
-abbrev pub outputAfter : (answer : Written) (text output : List ℕ) → List ℕ
-outputAfter (Bytes n) text output = text ++ drop n output
-outputAfter (Refused fault) text output = output

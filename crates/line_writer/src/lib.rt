@@ -12,7 +12,8 @@ ghost use Prim.Native.Nat.{_+_, _*_, _≤_, _<_};
 ghost use lib.ListN.{length, take};
 ghost use Rattle.line_writer.specs.Numeral.{digit as digitOf, numeral};
 ghost use Rattle.line_writer.specs.Addresses.{joined, octetsText, groupsText, groupsOf};
-ghost use Rattle.line_writer.specs.Written.{hasForm, tcpText, writtenLine, lineAnswer, outputAfter};
+ghost use Rattle.line_writer.specs.Written.{hasForm, tcpText, writtenLine, lineAnswer};
+ghost use Rattle.answer.specs.Answers.{outputAfter};
 ghost use Rattle.line_writer.specs.Demand.{ReadsBack};
 ghost use Rattle.line_writer.specs.Drafts.{Empty, Extended, Drafted, addressText, portsText};
 

@@ -52,8 +52,11 @@ pub placed-then : (a b d d₁ d₂ : List ℕ) (at next : ℕ) → d₁ ≡ plac
 placed-then a b d d₁ d₂ at next e₁ e₂ here h =
     e₂ ∙ ap₂ (λ (n : ℕ) (l : List ℕ). placed b n l) here e₁ ∙ placed-next a b at d h
 
--- bytes that were put at the start, and n of them
+pub placed-front : (a d : List ℕ) → length a ≤ length d → placed a 0 d ≡ a ++ drop (length a) d
+placed-front a d h =
+    let e : 0 + length a ≡ length a = omega arith in
+    placed-fits a 0 d (omega arith) ∙ ap (λ (n : ℕ). a ++ drop n d) e
+
+-- the same, of a buffer's state behind n bytes
 pub placed-start : (a d d₁ : List ℕ) (n : ℕ) → d₁ ≡ placed a 0 d → length a ≡ n → n ≤ length d → d₁ ≡ a ++ drop n d
-placed-start a d d₁ n e size h =
-    let all : 0 + length a ≡ n = omega arith in
-    e ∙ placed-fits a 0 d (omega arith) ∙ ap (λ (m : ℕ). a ++ drop m d) all
+placed-start a d d₁ n e size h = e ∙ placed-front a d (omega arith) ∙ ap (λ (m : ℕ). a ++ drop m d) size

@@ -43,8 +43,3 @@ stored r = mark ++ formVersion ++ codeOf (r .kind) ∷ addressBlock r
 abbrev pub storeAnswer : Record → (room : ℕ) → Written
 storeAnswer r room =
     pick (cleanTest r) (pick (leb (length (stored r)) room) (Bytes (length (stored r))) (Refused Room)) (Refused Unused)
-
--- "Refusals leave the output untouched; on success bytes past the written length stay"
-abbrev pub outputAfter : (answer : Written) (text output : List ℕ) → List ℕ
-outputAfter (Bytes n) text output = text ++ drop n output
-outputAfter (Refused fault) text output = output

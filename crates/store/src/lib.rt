@@ -17,7 +17,8 @@ ghost use mathlib.Core.Path.{_≡_};
 ghost use Prim.Native.Nat.{_≤_};
 ghost use lib.ListN.{length};
 ghost use Rattle.record.specs.Told.{toldFamily};
-ghost use Rattle.store.specs.Stored.{codeOf, kindOf, stored, storeAnswer, outputAfter};
+ghost use Rattle.store.specs.Stored.{codeOf, kindOf, stored, storeAnswer};
+ghost use Rattle.answer.specs.Answers.{outputAfter};
 ghost use Rattle.store.specs.Loading.{hasMark, hasVersion, refusedFor, loadAnswer};
 
 // Why stored bytes are not a record: document 01's numbers 15 to 18.

@@ -1,6 +1,7 @@
 //! A whole header of version 2 (document 01, The binary block), cut at the
 //! places its length field and its kind name.
 
+use crate::address_block::record_of_block;
 use crate::fixed_bytes::{LOCAL, PROXY, SIGNATURE, UNSPECIFIED};
 use crate::record::{Kind, Record};
 use crate::verdict::Header;
@@ -32,13 +33,7 @@ fn record_and_tlvs(kind: Kind, block: &[u8]) -> Option<(Record, usize)> {
     if !are_tlvs(tlvs) {
         return None;
     }
-    let (source, rest) = addresses.split_at(kind.address_length());
-    let (destination, ports) = rest.split_at(kind.address_length());
-    let ports = match *ports {
-        [a, b, c, d] => [u16::from_be_bytes([a, b]), u16::from_be_bytes([c, d])],
-        _ => [0, 0],
-    };
-    Some((Record::new(kind, source, destination, ports), tlvs.len()))
+    Some((record_of_block(kind, addresses), tlvs.len()))
 }
 
 /// True if TLVs fill `area` exactly.

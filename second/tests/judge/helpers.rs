@@ -18,6 +18,25 @@ pub const ADDRESS_KINDS: [(u8, Kind, &str, usize); 6] = [
     (0x32, Kind::Unix(Transport::Datagram), "unix-datagram", 216),
 ];
 
+pub const IP4_STREAM: Kind = Kind::Ip4(Transport::Stream);
+pub const IP4_DATAGRAM: Kind = Kind::Ip4(Transport::Datagram);
+pub const IP6_STREAM: Kind = Kind::Ip6(Transport::Stream);
+pub const IP6_DATAGRAM: Kind = Kind::Ip6(Transport::Datagram);
+pub const UNIX_STREAM: Kind = Kind::Unix(Transport::Stream);
+pub const UNIX_DATAGRAM: Kind = Kind::Unix(Transport::Datagram);
+
+/// Every kind, with the bytes of an address and whether it has ports.
+pub const KINDS: [(Kind, usize, bool); 8] = [
+    (Kind::Local, 0, false),
+    (Kind::Unspecified, 0, false),
+    (IP4_STREAM, 4, true),
+    (IP4_DATAGRAM, 4, true),
+    (IP6_STREAM, 16, true),
+    (IP6_DATAGRAM, 16, true),
+    (UNIX_STREAM, 108, false),
+    (UNIX_DATAGRAM, 108, false),
+];
+
 /// The signature, bytes 12 and 13, the length L, and then `block`, which may be
 /// shorter or longer than L.
 pub fn binary(command: u8, family: u8, length: usize, block: &[u8]) -> Vec<u8> {
@@ -70,6 +89,78 @@ fn padded(address: &[u8]) -> [u8; 108] {
     bytes
 }
 
+/// The record in all ways in which one unused address byte or port is not zero.
+pub fn with_unused_set(clean: &Record) -> Vec<Record> {
+    let (_, address, ports) = *KINDS.iter().find(|kind| kind.0 == clean.kind).unwrap();
+    let mut records = Vec::new();
+    let mut add = |set: &dyn Fn(&mut Record)| {
+        let mut record = clean.clone();
+        set(&mut record);
+        records.push(record);
+    };
+    for place in address..108 {
+        for byte in [1, 0x80, 0xFF] {
+            add(&|record| record.source[place] = byte);
+            add(&|record| record.destination[place] = byte);
+        }
+    }
+    if !ports {
+        for port in [1, 0x100, 0xFFFF] {
+            add(&|record| record.source_port = port);
+            add(&|record| record.destination_port = port);
+        }
+    }
+    records
+}
+
+/// Checks that `write` writes `expected` to an output of `length` bytes, or
+/// refuses with 14 if that is too short, and leaves all other bytes.
+pub fn check_output(
+    expected: &[u8],
+    length: usize,
+    write: impl Fn(&mut [u8]) -> Result<usize, u8>,
+) {
+    for canary in [0xA5, 0x5A] {
+        let mut memory = vec![canary; length + 4];
+        let written = write(&mut memory[..length]);
+        let changed = if length < expected.len() {
+            assert_eq!(written, Err(14), "{length} bytes of output");
+            0
+        } else {
+            assert_eq!(written, Ok(expected.len()), "{length} bytes of output");
+            expected.len()
+        };
+        assert_eq!(memory[..changed], expected[..changed]);
+        assert!(memory[changed..].iter().all(|&byte| byte == canary));
+    }
+}
+
+/// As `check_output`, for all lengths from 0 to the needed one plus two.
+pub fn check_outputs(expected: &[u8], write: impl Fn(&mut [u8]) -> Result<usize, u8>) {
+    for length in 0..=expected.len() + 2 {
+        check_output(expected, length, &write);
+    }
+}
+
+/// Checks that `write` refuses with `number` and leaves the output, be it long
+/// enough or not.
+pub fn check_refused(number: u8, write: impl Fn(&mut [u8]) -> Result<usize, u8>) {
+    for length in [0, 1, 300] {
+        let mut out = vec![0xA5; length];
+        assert_eq!(write(&mut out), Err(number), "{length} bytes of output");
+        assert_eq!(out, vec![0xA5; length]);
+    }
+}
+
+/// TLVs, each a type and a value, one behind the other.
+pub fn area_of(tlvs: &[(u8, Vec<u8>)]) -> Vec<u8> {
+    let bytes = tlvs.iter().map(|(kind, value)| {
+        let [high, low] = u16::try_from(value.len()).unwrap().to_be_bytes();
+        [&[*kind, high, low], &value[..]].concat()
+    });
+    bytes.collect::<Vec<_>>().concat()
+}
+
 /// The sixteen bytes of eight groups.
 pub fn groups(groups: [u16; 8]) -> Vec<u8> {
     groups
@@ -116,5 +207,45 @@ impl Random {
     /// True once in `times` on average.
     pub fn once_in(&mut self, times: usize) -> bool {
         self.below(times) == 0
+    }
+
+    pub fn bytes(&mut self, length: usize) -> Vec<u8> {
+        (0..length).map(|_| self.byte()).collect()
+    }
+
+    /// A record of any of these kinds that uses all it may. Zeros are frequent.
+    pub fn record(&mut self, kinds: &[(Kind, usize, bool)]) -> Record {
+        let (kind, address, ports) = self.pick(kinds);
+        let mut bytes = self.bytes(2 * address + 4);
+        for byte in &mut bytes {
+            if self.once_in(3) {
+                *byte = 0;
+            }
+        }
+        let port = |place: usize| match ports {
+            true => u16::from_be_bytes([bytes[place], bytes[place + 1]]),
+            false => 0,
+        };
+        let (source, destination) = (&bytes[..address], &bytes[address..2 * address]);
+        record(
+            kind,
+            source,
+            destination,
+            port(2 * address),
+            port(2 * address + 2),
+        )
+    }
+
+    /// Up to `most` TLVs with few types, some of them with a long value.
+    pub fn tlvs(&mut self, most: usize) -> Vec<(u8, Vec<u8>)> {
+        let count = self.below(most + 1);
+        let tlv = |_| {
+            let length = match self.once_in(9) {
+                true => 250 + self.below(20),
+                false => self.below(5),
+            };
+            (self.pick(&[1, 4, 5, 0xEE]), self.bytes(length))
+        };
+        (0..count).map(tlv).collect()
     }
 }

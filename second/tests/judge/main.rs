@@ -1,13 +1,19 @@
-//! What the judge answers. The expected answers are written by hand from
+//! What the judge answers, what is written and stored, and what is seen in
+//! TLVs. The expected answers are written by hand from
 //! document 01; none is taken from a program.
 
 mod binary_block;
 mod definition;
 mod helpers;
+mod lookup;
 mod program;
 mod slips;
 mod source_documents;
+mod stored_form;
 mod text_line;
 mod tlv_area;
+mod tlv_list;
 mod whole_headers;
 mod worked_table;
+mod written_headers;
+mod written_lines;

@@ -11,8 +11,8 @@ use Rattle.exact.specs.Parser.{_then_}
 use Rattle.record.specs.Kinds.{family}
 use Rattle.header.specs.BlockFields.{familyField, familyRest}
 use Rattle.answer.specs.StageLaws.{answers-as, as-refused, as-accepted}
-use Rattle.block.specs.declared.Family.{Family}
-use Rattle.block.specs.Parts.{toldFamily}
+use Rattle.record.specs.declared.Family.{Family}
+use Rattle.record.specs.Told.{toldFamily}
 use Rattle.block.specs.Takes.{bytes-of, bytes-drop, next-short, short-at}
 use Rattle.block.specs.Leaves.{byte-short, byte-full}
 use Rattle.block.proofs.proxy.Statement.{statement}

@@ -12,7 +12,8 @@ use Rattle.record.specs.Unused.{cleanTest}
 use Rattle.record.specs.Placed.{placed}
 use Rattle.record.specs.PlacedLaws.{placed-front}
 use Rattle.answer.specs.declared.Written.{Written}
-use Rattle.line_writer.specs.Written.{hasForm, writtenLine, lineAnswer, outputAfter}
+use Rattle.line_writer.specs.Written.{hasForm, writtenLine, lineAnswer}
+use Rattle.answer.specs.Answers.{outputAfter}
 use Rattle.line_writer.specs.Demand.{ReadsBack, reads-back}
 use Rattle.line_writer.specs.DraftLaws.{drafted-fits}
 use Rattle.record.proofs.InMemory.{in-memory}

@@ -1,0 +1,18 @@
+//! The numbers of the refusals that have no place (document 01, Numbered
+//! answers).
+
+/// The record has no form in the version asked for.
+pub const NO_FORM: u8 = 10;
+/// An unused address byte or port is not zero.
+pub const UNUSED_NOT_ZERO: u8 = 11;
+/// A TLV area is ill-formed, or non-empty beside local or unspecified.
+pub const TLV_AREA: u8 = 12;
+/// Address block and TLVs exceed 65,535 bytes.
+pub const BLOCK_TOO_LONG: u8 = 13;
+/// The output is shorter than what must be written.
+pub const OUTPUT_TOO_SHORT: u8 = 14;
+
+pub const STORED_MARK: u8 = 15;
+pub const STORED_VERSION: u8 = 16;
+pub const STORED_KIND_CODE: u8 = 17;
+pub const STORED_LENGTH: u8 = 18;
