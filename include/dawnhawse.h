@@ -27,6 +27,12 @@ extern "C" {
 /* The bytes begin with a whole header. */
 #define DAWNHAWSE_ACCEPTED 0
 
+/* A TLV is found or shown. */
+#define DAWNHAWSE_FOUND 0
+
+/* A header is written. */
+#define DAWNHAWSE_WRITTEN 0
+
 /* The byte at the place told rules a header out; the number says which field holds it. */
 #define DAWNHAWSE_REFUSED_START 1   /* "PROXY " of version 1, or the twelve bytes of the version 2 signature */
 #define DAWNHAWSE_REFUSED_WORD 2    /* version 1: TCP4, TCP6 or UNKNOWN, or the byte after it */
@@ -38,21 +44,50 @@ extern "C" {
 #define DAWNHAWSE_REFUSED_LENGTH 8  /* version 2: bytes 14 and 15, length */
 #define DAWNHAWSE_REFUSED_TLV 9     /* version 2: a TLV inside the header */
 
+/* Writers: the record has no form in the version; an address byte or port that the kind does not use is not zero. */
+#define DAWNHAWSE_NO_FORM 10
+#define DAWNHAWSE_UNUSED_NOT_ZERO 11
+
+/* TLVs do not fill the area, or what remains of it. */
+#define DAWNHAWSE_ILL_FORMED 12
+
 /* A buffer that must be written is too short; no buffer was written. */
 #define DAWNHAWSE_NO_ROOM 14
+
+/* Writers: the connection's kind code is unknown; the connection has not 221 bytes. */
+#define DAWNHAWSE_UNKNOWN_KIND 17
+#define DAWNHAWSE_WRONG_SIZE 18
+
+/* dawnhawse_step: the walk is at the end of the area. */
+#define DAWNHAWSE_END 252
+
+/* dawnhawse_lookup: the area has no TLV of the type; or none is among those examined, and the area has more TLVs than the limit. */
+#define DAWNHAWSE_ABSENT 253
+#define DAWNHAWSE_GAVE_UP 254
 
 /* The bytes are the beginning of a header, and more bytes are needed. */
 #define DAWNHAWSE_MORE 255
 
-/* ---- The numbers of a reading: uint64_t numbers[DAWNHAWSE_NUMBERS] ---- */
+/* ---- The numbers of an answer: uint64_t numbers[DAWNHAWSE_NUMBERS] ---- */
 
 #define DAWNHAWSE_NUMBERS 4
 
+/* dawnhawse_read */
 #define DAWNHAWSE_LENGTH 0      /* accepted: the header's length, 15 to 65551; the payload starts there */
 #define DAWNHAWSE_PLACE 0       /* refused: the place of the first byte that rules a header out, counted from 0 */
 #define DAWNHAWSE_VERSION 1     /* accepted: 1 or 2 */
 #define DAWNHAWSE_AREA_START 2  /* accepted: where the TLV area starts in the bytes read */
 #define DAWNHAWSE_AREA_LENGTH 3 /* accepted: the area's length; 0 for version 1, local and unspecified */
+
+/* dawnhawse_step and dawnhawse_lookup */
+#define DAWNHAWSE_NEXT 0         /* step: the place for the next step */
+#define DAWNHAWSE_COUNT 0        /* lookup: how many TLVs were examined, never more than the limit */
+#define DAWNHAWSE_TYPE 1         /* step: the type shown; lookup: the type asked for */
+#define DAWNHAWSE_VALUE_START 2  /* where the value starts in the area */
+#define DAWNHAWSE_VALUE_LENGTH 3 /* the value's length */
+
+/* dawnhawse_write_v1 */
+#define DAWNHAWSE_WRITTEN_LENGTH 0 /* how many bytes were written; the other three numbers are 0 */
 
 /* ---- A connection: uint8_t connection[DAWNHAWSE_CONNECTION] ---- */
 
@@ -96,6 +131,59 @@ extern "C" {
  */
 uint32_t dawnhawse_read(const uint8_t *bytes, size_t bytes_len, uint64_t *numbers, size_t numbers_len,
                         uint8_t *connection, size_t connection_len);
+
+/*
+ * One step of a walk over a TLV area. Start at place 0, and go on at numbers[DAWNHAWSE_NEXT].
+ *
+ *   area, area_len         the TLV area of a header, bytes + numbers[DAWNHAWSE_AREA_START]; not altered
+ *   at                     the place of the step, counted from 0
+ *   numbers, numbers_len   at least DAWNHAWSE_NUMBERS elements
+ *
+ * Answers
+ *   DAWNHAWSE_FOUND        a TLV stands there; numbers: the place behind it, its type, its value's start and length in the area
+ *   DAWNHAWSE_END          the area ends there; numbers: at, 0, 0, 0
+ *   DAWNHAWSE_ILL_FORMED   TLVs do not fill what remains, or the place lies beyond the area; numbers: at, 0, 0, 0
+ *   DAWNHAWSE_NO_ROOM      numbers has fewer than 4 elements; it is as it was
+ */
+uint32_t dawnhawse_step(const uint8_t *area, size_t area_len, size_t at, uint64_t *numbers, size_t numbers_len);
+
+/*
+ * The first TLV of a type in a TLV area, of which at most limit TLVs are examined.
+ *
+ *   area, area_len         the TLV area; not altered
+ *   wanted                 the type
+ *   limit                  how many TLVs may be examined
+ *   numbers, numbers_len   at least DAWNHAWSE_NUMBERS elements
+ *
+ * Answers
+ *   DAWNHAWSE_FOUND        numbers: TLVs examined, the type, the value's start and length in the area
+ *   DAWNHAWSE_ABSENT       there is none; numbers: TLVs examined, the type, 0, 0
+ *   DAWNHAWSE_GAVE_UP      none is among the first limit TLVs, and there are more; numbers: limit, the type, 0, 0
+ *   DAWNHAWSE_ILL_FORMED   TLVs do not fill the area; numbers: 0, the type, 0, 0
+ *   DAWNHAWSE_NO_ROOM      numbers has fewer than 4 elements; it is as it was
+ */
+uint32_t dawnhawse_lookup(const uint8_t *area, size_t area_len, uint8_t wanted, size_t limit, uint64_t *numbers,
+                          size_t numbers_len);
+
+/*
+ * Writes the version 1 line of a connection to the front of the output. Version 1 carries IPv4 stream, IPv6 stream and
+ * unspecified; 104 bytes are room enough for each.
+ *
+ *   connection, connection_len   exactly DAWNHAWSE_CONNECTION bytes; not altered
+ *   out, out_len                 the output; bytes past the line stay as they were
+ *   numbers, numbers_len         at least DAWNHAWSE_NUMBERS elements
+ *
+ * Answers, the first that applies
+ *   DAWNHAWSE_NO_ROOM           numbers has fewer than 4 elements; both buffers are as they were
+ *   DAWNHAWSE_WRONG_SIZE        connection has not 221 bytes; both buffers are as they were
+ *   DAWNHAWSE_UNKNOWN_KIND      its kind code is unknown; both buffers are as they were
+ *   DAWNHAWSE_NO_FORM           version 1 does not carry the kind; the output is as it was; numbers: 0, 0, 0, 0
+ *   DAWNHAWSE_UNUSED_NOT_ZERO   the same, for an unused byte or port that is not zero
+ *   DAWNHAWSE_NO_ROOM           the same, for an output that is shorter than the line
+ *   DAWNHAWSE_WRITTEN           the line is written; numbers: its length, 0, 0, 0
+ */
+uint32_t dawnhawse_write_v1(const uint8_t *connection, size_t connection_len, uint8_t *out, size_t out_len,
+                            uint64_t *numbers, size_t numbers_len);
 
 #ifdef __cplusplus
 }

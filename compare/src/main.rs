@@ -2,6 +2,8 @@
 //! Usage: compare FOLDER-OF-THE-PROGRAMS [HOW-MANY-GENERATED]
 mod headers;
 mod inputs;
+mod interface;
+mod library;
 mod programs;
 
 use inputs::Group;
@@ -15,7 +17,27 @@ fn main() {
     let generated: usize = args.next().map_or(40_000, |n| n.parse().expect("a count"));
     println!("compare: seed {SEED:#018x}");
     let (mut passed, mut failed, mut compared) = (0, 0, 0);
-    for group in inputs::groups(SEED, generated) {
+    let groups = inputs::groups(SEED, generated);
+    let mut random = inputs::Random(SEED);
+    for outcome in [
+        interface::readings(groups.iter().flat_map(|group| &group.cases)),
+        interface::steps(&mut random, generated / 20),
+        interface::lookups(&mut random, generated / 20),
+        interface::lines(&mut random, generated / 40),
+    ] {
+        compared += outcome.compared;
+        match outcome.difference {
+            None => {
+                passed += 1;
+                println!("compare: {} {}: the same", outcome.compared, outcome.name);
+            }
+            Some(difference) => {
+                failed += 1;
+                println!("compare: {}: {difference}", outcome.name);
+            }
+        }
+    }
+    for group in groups {
         let differences = compare(&folder, &group);
         compared += group.cases.len();
         println!("compare: {} inputs, {}: {}", group.cases.len(), group.name, if differences == 0 { "the same" } else { "DIFFERENT" });

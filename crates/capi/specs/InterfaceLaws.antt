@@ -27,7 +27,7 @@ use Rattle.capi.specs.Interface.{answerNumber, numbersOf, spokenRecord, 
 pub record Tells (reading : Reading) (size : ℕ) (r : Told) : Type 0 where
   pub answer : (s : List ℕ) (v : Claim.Verdict Header) → length s ≡ size → Answers s v reading → r .answer ≡ answerNumber v
   pub numbers : (s : List ℕ) (v : Claim.Verdict Header) → length s ≡ size → Answers s v reading
-      → r .first ∷ r .version ∷ r .start ∷ r .area ∷ [] ≡ numbersOf v
+      → r .first ∷ r .second ∷ r .start ∷ r .length ∷ [] ≡ numbersOf v
 
 -- ── the record ──
 spoken-by : (s : List ℕ) (w : Verdict) (r : Reading) (v : Claim.Verdict Header) → toldVerdict s w r ≡ v → bareUnless w r → spokenRecord v ≡ r .record
@@ -63,7 +63,7 @@ told-as : {s : List ℕ} {v : Claim.Verdict Header} {r : Reading} (w : Verdict) 
 told-as {s} {r = r} w e a = ap (λ (x : Verdict). toldVerdict s x r) (sym e) ∙ a .told
 
 module _ (reading : Reading) (size : ℕ) where
-  pub tells-more : reading .verdict ≡ More → Tells reading size (record { answer = 255; first = 0; version = 0; start = 0; area = 0 })
+  pub tells-more : reading .verdict ≡ More → Tells reading size (record { answer = 255; first = 0; second = 0; start = 0; length = 0 })
   tells-more e =
       record {
         answer = λ s v l a. ap answerNumber (told-as More e a);
@@ -71,7 +71,7 @@ module _ (reading : Reading) (size : ℕ) where
       }
 
   pub tells-refused : (k : Refusal) (x p : ℕ) → reading .verdict ≡ Refused k p → x ≡ numberOf k
-      → Tells reading size (record { answer = x; first = p; version = 0; start = 0; area = 0 })
+      → Tells reading size (record { answer = x; first = p; second = 0; start = 0; length = 0 })
   tells-refused k x p e number =
       record {
         answer = λ s v l a. number ∙ ap answerNumber (told-as (Refused k p) e a);
@@ -79,7 +79,7 @@ module _ (reading : Reading) (size : ℕ) where
       }
 
   pub tells-accepted : (n x area : ℕ) → reading .verdict ≡ Accepted n x → area ≡ areaEnd reading size - areaStart reading size
-      → Tells reading size (record { answer = 0; first = n; version = x; start = n - area; area = area })
+      → Tells reading size (record { answer = 0; first = n; second = x; start = n - area; length = area })
   tells-accepted n x area e part =
       record {
         answer = λ s v l a. ap answerNumber (told-as (Accepted n x) e a);
@@ -139,7 +139,7 @@ module _ (v : Claim.Verdict Header) (numbers connection : List ℕ) where
   )
 
   pub written : (reading : Reading) (r : Told) (s n c : List ℕ) → 4 ≤ length numbers → 221 ≤ length connection → Answers s v reading
-      → Tells reading (length s) r → n ≡ over (r .first ∷ r .version ∷ r .start ∷ r .area ∷ []) numbers
+      → Tells reading (length s) r → n ≡ over (r .first ∷ r .second ∷ r .start ∷ r .length ∷ []) numbers
       → c ≡ over (connectionBytes (reading .record)) connection → Left (r .answer) n c
   written reading r s n c h k a t en ec =
       let e = room numbers connection h k in (

@@ -1,2 +1,6 @@
 pub mod Interface
 pub mod InterfaceLaws
+pub mod TlvInterface
+pub mod TlvLaws
+pub mod WriteInterface
+pub mod WriteLaws

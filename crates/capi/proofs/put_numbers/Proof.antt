@@ -23,7 +23,7 @@ same-length : tie.Need-same-length
 same-length c = search needs
 
 returns : tie.Need-returns
-returns c = let x = c .args in four-stores (now (x .out)) (x .first) (x .version) (x .start) (x .area) (c .pre)
+returns c = let x = c .args in four-stores (now (x .out)) (x .first) (x .second) (x .start) (x .size) (c .pre)
 
 pub put-numbers-spec : {M : Type 1} → statement M
 put-numbers-spec =
