@@ -12,19 +12,29 @@ pub struct Outcome {
 }
 
 impl Outcome {
-    fn new(name: &'static str) -> Self {
+    pub fn new(name: &'static str) -> Self {
         Outcome { name, compared: 0, difference: None }
     }
 
-    fn same<T: PartialEq + std::fmt::Debug>(&mut self, here: T, there: T, input: impl FnOnce() -> String) {
+    pub fn same<T: PartialEq + std::fmt::Debug>(&mut self, here: T, there: T, input: impl FnOnce() -> String) {
         self.compared += 1;
         if here != there && self.difference.is_none() {
             self.difference = Some(format!("{}: the library says {here:?}, the second program {there:?}", input()));
         }
     }
+
+    /// If a header was written, both readers read the record and its length from it.
+    pub fn reads_back(&mut self, written: &(Answer, Vec<u8>), record: &Record) {
+        let (Answer(0, [n, ..]), out) = written else { return };
+        let header = &out[..*n as usize];
+        let there = expected(&second::judge(header));
+        let said = |reading: &(Answer, [u8; 221])| (reading.0 .0, reading.0 .1[0], reading.1);
+        self.same(said(&there), (0, *n, library::connection(record)), || hex(header));
+        self.same(library::read(header), there, || hex(header));
+    }
 }
 
-fn hex(bytes: &[u8]) -> String {
+pub fn hex(bytes: &[u8]) -> String {
     bytes.iter().take(300).map(|b| format!("{b:02x}")).collect()
 }
 
@@ -51,7 +61,7 @@ fn expected(verdict: &Verdict) -> (Answer, [u8; 221]) {
 }
 
 /// A TLV area, whole or damaged.
-fn area(random: &mut Random) -> Vec<u8> {
+pub fn area(random: &mut Random) -> Vec<u8> {
     let mut area = Vec::new();
     for _ in 0..random.below(7) {
         let length = if random.below(5) == 0 { random.below(300) } else { random.below(4) };
@@ -108,6 +118,17 @@ pub fn lookups(random: &mut Random, areas: usize) -> Outcome {
 
 /// A record of any kind, clean or with one byte or port that should be zero.
 fn record(random: &mut Random) -> Record {
+    let mut record = clean(random);
+    match random.below(8) {
+        0 => record.source[random.below(108)] ^= 1,
+        1 => record.destination_port ^= 1,
+        _ => (),
+    }
+    record
+}
+
+/// A record of any kind whose unused bytes and ports are zero.
+pub fn clean(random: &mut Random) -> Record {
     let transport = [Transport::Stream, Transport::Datagram][random.below(2)];
     let kinds = [Kind::Local, Kind::Unspecified, Kind::Ip4(transport), Kind::Ip6(transport), Kind::Ip4(Transport::Stream), Kind::Ip6(Transport::Stream), Kind::Unix(transport)];
     let mut record = Record::blank(kinds[random.below(kinds.len())]);
@@ -120,11 +141,6 @@ fn record(random: &mut Random) -> Record {
         record.source_port = random.byte() as u16 * [0, 1, 257][random.below(3)];
         record.destination_port = random.byte() as u16 * [0, 1, 257][random.below(3)];
     }
-    match random.below(8) {
-        0 => record.source[random.below(108)] ^= 1,
-        1 => record.destination_port ^= 1,
-        _ => (),
-    }
     record
 }
 
@@ -135,12 +151,8 @@ pub fn lines(random: &mut Random, records: usize) -> Outcome {
         let record = record(random);
         for room in 0..=110 {
             let here = library::write_v1(&record, room);
-            if here.0 .0 == 0 {
-                let n = here.0 .1[0] as usize;
-                let (answer, connection) = library::read(&here.1[..n]);
-                outcome.same((answer.0, answer.1[0], connection), (0, n as u64, library::connection(&record)), || hex(&here.1));
-            }
-            outcome.same(here, library::second_write_v1(&record, room), || format!("{} in {room} bytes", hex(&library::connection(&record))));
+            outcome.reads_back(&here, &record);
+            outcome.same(here, library::second_writes(room, |out| second::write_v1(&record, out)), || format!("{} in {room} bytes", hex(&library::connection(&record))));
         }
     }
     outcome

@@ -5,6 +5,7 @@ mod inputs;
 mod interface;
 mod library;
 mod programs;
+mod writers;
 
 use inputs::Group;
 use std::path::PathBuf;
@@ -24,6 +25,9 @@ fn main() {
         interface::steps(&mut random, generated / 20),
         interface::lookups(&mut random, generated / 20),
         interface::lines(&mut random, generated / 40),
+        writers::blocks(&mut random, generated / 40),
+        writers::stored(&mut random, generated / 40),
+        writers::loads(&mut random, generated),
     ] {
         compared += outcome.compared;
         match outcome.difference {
