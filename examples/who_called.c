@@ -41,7 +41,7 @@ static void print_caller(const uint8_t *connection)
 int main(void)
 {
     static const char sent[] = "PROXY TCP4 192.168.0.1 192.168.0.11 56324 443\r\nGET / HTTP/1.0\r\n\r\n";
-    uint8_t bytes[65551]; /* the longest header */
+    uint8_t bytes[DAWNHAWSE_LONGEST_HEADER];
     size_t received = 0;
     uint64_t numbers[DAWNHAWSE_NUMBERS];
     uint8_t connection[DAWNHAWSE_CONNECTION];

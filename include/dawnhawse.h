@@ -30,8 +30,11 @@ extern "C" {
 /* A TLV is found or shown. */
 #define DAWNHAWSE_FOUND 0
 
-/* A header is written. */
+/* A header or a stored form is written. */
 #define DAWNHAWSE_WRITTEN 0
+
+/* A stored form is whole, and its connection is told. */
+#define DAWNHAWSE_LOADED 0
 
 /* The byte at the place told rules a header out; the number says which field holds it. */
 #define DAWNHAWSE_REFUSED_START 1   /* "PROXY " of version 1, or the twelve bytes of the version 2 signature */
@@ -48,13 +51,20 @@ extern "C" {
 #define DAWNHAWSE_NO_FORM 10
 #define DAWNHAWSE_UNUSED_NOT_ZERO 11
 
-/* TLVs do not fill the area, or what remains of it. */
+/* TLVs do not fill the area, or what remains of it; version 2 writer: or an area that is not empty beside local or unspecified. */
 #define DAWNHAWSE_ILL_FORMED 12
 
-/* A buffer that must be written is too short; no buffer was written. */
+/* Version 2 writer: address block and TLVs exceed 65535 bytes. */
+#define DAWNHAWSE_TOO_LARGE 13
+
+/* A buffer that must be written is too short. */
 #define DAWNHAWSE_NO_ROOM 14
 
-/* Writers: the connection's kind code is unknown; the connection has not 221 bytes. */
+/* Load: the first three bytes are not the mark; the next two are not version 1. */
+#define DAWNHAWSE_WRONG_MARK 15
+#define DAWNHAWSE_WRONG_VERSION 16
+
+/* Load: the kind code is unknown; the length is not the one of the kind. Writers: the same of a connection and its 221 bytes. */
 #define DAWNHAWSE_UNKNOWN_KIND 17
 #define DAWNHAWSE_WRONG_SIZE 18
 
@@ -86,8 +96,14 @@ extern "C" {
 #define DAWNHAWSE_VALUE_START 2  /* where the value starts in the area */
 #define DAWNHAWSE_VALUE_LENGTH 3 /* the value's length */
 
-/* dawnhawse_write_v1 */
+/* dawnhawse_write_v1, dawnhawse_write_v2 and dawnhawse_store */
 #define DAWNHAWSE_WRITTEN_LENGTH 0 /* how many bytes were written; the other three numbers are 0 */
+
+/* ---- Outputs: so many bytes are room enough ---- */
+
+#define DAWNHAWSE_LONGEST_V1 104       /* a version 1 line that is written; one that is read has at most 107 */
+#define DAWNHAWSE_LONGEST_HEADER 65551 /* any header */
+#define DAWNHAWSE_LONGEST_STORED 222   /* a stored form */
 
 /* ---- A connection: uint8_t connection[DAWNHAWSE_CONNECTION] ---- */
 
@@ -167,10 +183,10 @@ uint32_t dawnhawse_lookup(const uint8_t *area, size_t area_len, uint8_t wanted, 
 
 /*
  * Writes the version 1 line of a connection to the front of the output. Version 1 carries IPv4 stream, IPv6 stream and
- * unspecified; 104 bytes are room enough for each.
+ * unspecified.
  *
  *   connection, connection_len   exactly DAWNHAWSE_CONNECTION bytes; not altered
- *   out, out_len                 the output; bytes past the line stay as they were
+ *   out, out_len                 the output, of which DAWNHAWSE_LONGEST_V1 bytes are enough; bytes past the line stay as they were
  *   numbers, numbers_len         at least DAWNHAWSE_NUMBERS elements
  *
  * Answers, the first that applies
@@ -184,6 +200,62 @@ uint32_t dawnhawse_lookup(const uint8_t *area, size_t area_len, uint8_t wanted, 
  */
 uint32_t dawnhawse_write_v1(const uint8_t *connection, size_t connection_len, uint8_t *out, size_t out_len,
                             uint64_t *numbers, size_t numbers_len);
+
+/*
+ * Writes the version 2 header of a connection, with its TLVs, to the front of the output. Version 2 carries every kind.
+ *
+ *   connection, connection_len   exactly DAWNHAWSE_CONNECTION bytes; not altered
+ *   area, area_len               the TLV area, as it stands in a header; it may be empty; not altered
+ *   out, out_len                 the output, of which DAWNHAWSE_LONGEST_HEADER bytes are enough; bytes past the header stay
+ *   numbers, numbers_len         at least DAWNHAWSE_NUMBERS elements
+ *
+ * Answers, the first that applies
+ *   DAWNHAWSE_NO_ROOM           numbers has fewer than 4 elements; both buffers are as they were
+ *   DAWNHAWSE_WRONG_SIZE        connection has not 221 bytes; both buffers are as they were
+ *   DAWNHAWSE_UNKNOWN_KIND      its kind code is unknown; both buffers are as they were
+ *   DAWNHAWSE_UNUSED_NOT_ZERO   an unused byte or port is not zero; the output is as it was; numbers: 0, 0, 0, 0
+ *   DAWNHAWSE_ILL_FORMED        the same, for an area that TLVs do not fill, or that is not empty beside local or unspecified
+ *   DAWNHAWSE_TOO_LARGE         the same, for an address block and an area of more than 65535 bytes
+ *   DAWNHAWSE_NO_ROOM           the same, for an output that is shorter than the header
+ *   DAWNHAWSE_WRITTEN           the header is written; numbers: its length, 0, 0, 0
+ */
+uint32_t dawnhawse_write_v2(const uint8_t *connection, size_t connection_len, const uint8_t *area, size_t area_len,
+                            uint8_t *out, size_t out_len, uint64_t *numbers, size_t numbers_len);
+
+/*
+ * Writes the stored form of a connection to the front of the output: one connection, one byte string.
+ *
+ *   connection, connection_len   exactly DAWNHAWSE_CONNECTION bytes; not altered
+ *   out, out_len                 the output, of which DAWNHAWSE_LONGEST_STORED bytes are enough; bytes past the form stay
+ *   numbers, numbers_len         at least DAWNHAWSE_NUMBERS elements
+ *
+ * Answers, the first that applies
+ *   DAWNHAWSE_NO_ROOM           numbers has fewer than 4 elements; both buffers are as they were
+ *   DAWNHAWSE_WRONG_SIZE        connection has not 221 bytes; both buffers are as they were
+ *   DAWNHAWSE_UNKNOWN_KIND      its kind code is unknown; both buffers are as they were
+ *   DAWNHAWSE_UNUSED_NOT_ZERO   an unused byte or port is not zero; the output is as it was; numbers: 0, 0, 0, 0
+ *   DAWNHAWSE_NO_ROOM           the same, for an output that is shorter than the form
+ *   DAWNHAWSE_WRITTEN           the form is written; numbers: its length, 6, 18, 42 or 222, then 0, 0, 0
+ */
+uint32_t dawnhawse_store(const uint8_t *connection, size_t connection_len, uint8_t *out, size_t out_len,
+                         uint64_t *numbers, size_t numbers_len);
+
+/*
+ * The connection of a stored form.
+ *
+ *   stored, stored_len           the form, and no byte more; not altered
+ *   connection, connection_len   at least DAWNHAWSE_CONNECTION bytes; bytes past the 221st stay as they were
+ *
+ * Answers, the first that applies
+ *   DAWNHAWSE_NO_ROOM         connection has fewer than 221 bytes; it is as it was
+ *   DAWNHAWSE_WRONG_SIZE      the form has fewer than 6 bytes; connection: unspecified, all else zero
+ *   DAWNHAWSE_WRONG_MARK      it does not begin with 43 53 52; connection: the same
+ *   DAWNHAWSE_WRONG_VERSION   00 01 does not follow; connection: the same
+ *   DAWNHAWSE_UNKNOWN_KIND    its kind code is unknown; connection: the same
+ *   DAWNHAWSE_WRONG_SIZE      its length is not the one of its kind; connection: the same
+ *   DAWNHAWSE_LOADED          connection: what was stored
+ */
+uint32_t dawnhawse_load(const uint8_t *stored, size_t stored_len, uint8_t *connection, size_t connection_len);
 
 #ifdef __cplusplus
 }

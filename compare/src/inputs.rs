@@ -1,29 +1,10 @@
 //! The inputs, in groups.
 use crate::headers;
+use crate::random::Random;
 
 pub struct Group {
     pub name: &'static str,
     pub cases: Vec<Vec<u8>>,
-}
-
-/// A small generator with a fixed seed (xorshift).
-pub struct Random(pub u64);
-
-impl Random {
-    fn next(&mut self) -> u64 {
-        self.0 ^= self.0 << 13;
-        self.0 ^= self.0 >> 7;
-        self.0 ^= self.0 << 17;
-        self.0
-    }
-
-    pub fn below(&mut self, n: usize) -> usize {
-        (self.next() % n as u64) as usize
-    }
-
-    pub fn byte(&mut self) -> u8 {
-        self.next() as u8
-    }
 }
 
 pub fn groups(seed: u64, generated: usize) -> Vec<Group> {
@@ -116,6 +97,15 @@ fn long_cases(header: &[u8], random: &mut Random) -> Vec<Vec<u8>> {
         all.push(changed);
     }
     all
+}
+
+/// A line, a block or a damaged header.
+pub fn any(headers: &[Vec<u8>], random: &mut Random) -> Vec<u8> {
+    match random.below(3) {
+        0 => text(random),
+        1 => binary(random),
+        _ => damaged(headers, random),
+    }
 }
 
 const WORDS: [&str; 24] = [

@@ -1,8 +1,12 @@
-//! Comparisons through the C interface: whole readings, steps and lookup in TLV areas, and version 1 lines.
-use crate::headers;
-use crate::inputs::Random;
-use crate::library::{self, Answer};
-use second::{Kind, Record, Transport, Verdict};
+//! Comparisons through the C interface.
+use crate::connection::SIZE;
+use crate::random::Random;
+use crate::{connection, expected, hex, library, records, Left};
+use second::Verdict;
+
+/// Lengths of lent buffers with room to spare.
+const NUMBERS: usize = 6;
+const CONNECTION: usize = SIZE + 3;
 
 /// How many were compared, and a first difference.
 pub struct Outcome {
@@ -12,83 +16,49 @@ pub struct Outcome {
 }
 
 impl Outcome {
-    pub fn new(name: &'static str) -> Self {
+    fn new(name: &'static str) -> Self {
         Outcome { name, compared: 0, difference: None }
     }
 
-    pub fn same<T: PartialEq + std::fmt::Debug>(&mut self, here: T, there: T, input: impl FnOnce() -> String) {
+    fn add(&mut self, result: Result<(), String>) {
         self.compared += 1;
-        if here != there && self.difference.is_none() {
-            self.difference = Some(format!("{}: the library says {here:?}, the second program {there:?}", input()));
+        self.difference = self.difference.take().or(result.err());
+    }
+
+    fn same(&mut self, here: &Left, there: &Left, input: impl FnOnce() -> String) {
+        self.add(crate::same(here, there, input));
+    }
+
+    /// A header that was written is whole, says this connection, and both readers read it.
+    fn reads_back(&mut self, written: &Left, connection: &[u8]) {
+        if written.answer != 0 {
+            return;
         }
+        let header = &written.bytes[..written.numbers[0] as usize];
+        self.add(match second::judge(header) {
+            Verdict::Accepted(read) if read.length == header.len() && connection::bytes(&read.record)[..] == *connection => Ok(()),
+            verdict => Err(format!("{} is read back as {verdict:?}", hex(header))),
+        });
+        self.same(&library::read(header, NUMBERS, CONNECTION), &expected::read(header, NUMBERS, CONNECTION), || hex(header));
     }
-
-    /// If a header was written, both readers read the record and its length from it.
-    pub fn reads_back(&mut self, written: &(Answer, Vec<u8>), record: &Record) {
-        let (Answer(0, [n, ..]), out) = written else { return };
-        let header = &out[..*n as usize];
-        let there = expected(&second::judge(header));
-        let said = |reading: &(Answer, [u8; 221])| (reading.0 .0, reading.0 .1[0], reading.1);
-        self.same(said(&there), (0, *n, library::connection(record)), || hex(header));
-        self.same(library::read(header), there, || hex(header));
-    }
-}
-
-pub fn hex(bytes: &[u8]) -> String {
-    bytes.iter().take(300).map(|b| format!("{b:02x}")).collect()
 }
 
 /// Record, version, length and TLV area of every input.
 pub fn readings<'a>(inputs: impl Iterator<Item = &'a Vec<u8>>) -> Outcome {
     let mut outcome = Outcome::new("whole readings");
     for input in inputs {
-        outcome.same(library::read(input), expected(&second::judge(input)), || hex(input));
+        outcome.same(&library::read(input, NUMBERS, CONNECTION), &expected::read(input, NUMBERS, CONNECTION), || hex(input));
     }
     outcome
-}
-
-fn expected(verdict: &Verdict) -> (Answer, [u8; 221]) {
-    let nobody = library::connection(&Record::blank(Kind::Unspecified));
-    match verdict {
-        Verdict::Accepted(header) => {
-            let area = &header.tlv_area;
-            let numbers = [header.length as u64, u64::from(header.version), area.start as u64, area.len() as u64];
-            (Answer(0, numbers), library::connection(&header.record))
-        }
-        Verdict::More => (Answer(library::MORE, [0; 4]), nobody),
-        Verdict::Refused { number, place } => (Answer(u32::from(*number), [*place as u64, 0, 0, 0]), nobody),
-    }
-}
-
-/// A TLV area, whole or damaged.
-pub fn area(random: &mut Random) -> Vec<u8> {
-    let mut area = Vec::new();
-    for _ in 0..random.below(7) {
-        let length = if random.below(5) == 0 { random.below(300) } else { random.below(4) };
-        area.extend(headers::tlv(random.below(4) as u8, length));
-    }
-    if random.below(3) == 0 && !area.is_empty() {
-        let place = random.below(area.len());
-        area[place] = random.byte();
-    }
-    if random.below(5) == 0 {
-        area.truncate(random.below(area.len() + 1));
-    }
-    area
 }
 
 /// Every place of each area, and two beyond it.
 pub fn steps(random: &mut Random, areas: usize) -> Outcome {
     let mut outcome = Outcome::new("steps");
     for _ in 0..areas {
-        let area = area(random);
-        for at in 0..=area.len() + 2 {
-            let there = match second::step(&area, at) {
-                second::Step::Shown { kind, value, next } => Answer(0, [next as u64, u64::from(kind), value.start as u64, value.len() as u64]),
-                second::Step::End => Answer(library::END, [at as u64, 0, 0, 0]),
-                second::Step::Refused { number } => Answer(u32::from(number), [at as u64, 0, 0, 0]),
-            };
-            outcome.same(library::step(&area, at), there, || format!("{} at {at}", hex(&area)));
+        let area = records::area(random);
+        for at in (0..=area.len() + 2).chain([usize::MAX]) {
+            outcome.same(&library::step(&area, at, NUMBERS), &expected::step(&area, at, NUMBERS), || format!("{} at {at}", hex(&area)));
         }
     }
     outcome
@@ -98,62 +68,121 @@ pub fn steps(random: &mut Random, areas: usize) -> Outcome {
 pub fn lookups(random: &mut Random, areas: usize) -> Outcome {
     let mut outcome = Outcome::new("lookups");
     for _ in 0..areas {
-        let area = area(random);
+        let area = records::area(random);
         for wanted in 0..6 {
             for limit in (0..10).chain([usize::MAX]) {
-                let there = second::lookup(&area, wanted, limit);
-                let answer = match there.answer {
-                    second::Answer::Found => 0,
-                    second::Answer::Absent => library::ABSENT,
-                    second::Answer::GaveUp => library::GAVE_UP,
-                    second::Answer::Refused { .. } => library::ILL_FORMED,
-                };
-                let there = Answer(answer, [there.count as u64, u64::from(wanted), there.start as u64, there.length as u64]);
-                outcome.same(library::lookup(&area, wanted, limit), there, || format!("{} for {wanted}, limit {limit}", hex(&area)));
+                outcome.same(&library::lookup(&area, wanted, limit, NUMBERS), &expected::lookup(&area, wanted, limit, NUMBERS), || {
+                    format!("{} for {wanted}, limit {limit}", hex(&area))
+                });
             }
         }
     }
     outcome
 }
 
-/// A record of any kind, clean or with one byte or port that should be zero.
-fn record(random: &mut Random) -> Record {
-    let mut record = clean(random);
-    match random.below(8) {
-        0 => record.source[random.below(108)] ^= 1,
-        1 => record.destination_port ^= 1,
-        _ => (),
-    }
-    record
+/// Every room from none at all to three bytes more than what is to be written; for long output those at both ends.
+fn rooms(length: usize) -> impl Iterator<Item = usize> {
+    (0..length + 4).filter(move |room| length < 300 || *room < 20 || length < *room + 4)
 }
 
-/// A record of any kind whose unused bytes and ports are zero.
-pub fn clean(random: &mut Random) -> Record {
-    let transport = [Transport::Stream, Transport::Datagram][random.below(2)];
-    let kinds = [Kind::Local, Kind::Unspecified, Kind::Ip4(transport), Kind::Ip6(transport), Kind::Ip4(Transport::Stream), Kind::Ip6(Transport::Stream), Kind::Unix(transport)];
-    let mut record = Record::blank(kinds[random.below(kinds.len())]);
-    let n = record.kind.address_length();
-    for i in 0..n {
-        record.source[i] = if random.below(3) == 0 { 0 } else { random.byte() };
-        record.destination[i] = if random.below(3) == 0 { 0 } else { random.byte() };
-    }
-    if record.kind.has_ports() {
-        record.source_port = random.byte() as u16 * [0, 1, 257][random.below(3)];
-        record.destination_port = random.byte() as u16 * [0, 1, 257][random.below(3)];
-    }
-    record
-}
-
-/// Every output length from 0 to two more than the line, with canaries behind; what is written reads back.
-pub fn lines(random: &mut Random, records: usize) -> Outcome {
+/// Version 1 lines in every room; what is written reads back.
+pub fn lines(random: &mut Random, count: usize) -> Outcome {
     let mut outcome = Outcome::new("version 1 lines");
-    for _ in 0..records {
-        let record = record(random);
-        for room in 0..=110 {
-            let here = library::write_v1(&record, room);
-            outcome.reads_back(&here, &record);
-            outcome.same(here, library::second_writes(room, |out| second::write_v1(&record, out)), || format!("{} in {room} bytes", hex(&library::connection(&record))));
+    for _ in 0..count {
+        let connection = records::any(random);
+        for room in rooms(104) {
+            let here = library::write_v1(&connection, room, NUMBERS);
+            outcome.reads_back(&here, &connection);
+            outcome.same(&here, &expected::write_v1(&connection, room, NUMBERS), || format!("{} in {room} bytes", hex(&connection)));
         }
+    }
+    outcome
+}
+
+/// Version 2 headers with whole and damaged TLV areas, now and then of 65,535 bytes and about, in every room; what is written reads back.
+pub fn blocks(random: &mut Random, count: usize) -> Outcome {
+    let mut outcome = Outcome::new("version 2 headers");
+    for _ in 0..count {
+        let connection = records::any(random);
+        let mut area = records::area(random);
+        let block = connection::record(&connection).map_or(0, |record| record.kind.address_block_length());
+        if random.below(20) == 0 {
+            area = records::longest_area(block, random);
+        }
+        for room in rooms(16 + block + area.len()) {
+            let here = library::write_v2(&connection, &area, room, NUMBERS);
+            outcome.reads_back(&here, &connection);
+            outcome.same(&here, &expected::write_v2(&connection, &area, room, NUMBERS), || {
+                format!("{} with {} in {room} bytes", hex(&connection), hex(&area))
+            });
+        }
+    }
+    outcome
+}
+
+/// The stored form of connections of every kind, in every room; what is written is loaded again.
+pub fn stored(random: &mut Random, count: usize) -> Outcome {
+    let mut outcome = Outcome::new("stored records");
+    for _ in 0..count {
+        let connection = records::any(random);
+        for room in rooms(6 + 216) {
+            let here = library::store(&connection, room, NUMBERS);
+            if here.answer == 0 {
+                let again = library::load(&here.bytes[..here.numbers[0] as usize], SIZE);
+                outcome.add(if again.answer == 0 && again.bytes[..] == connection { Ok(()) } else { Err(format!("{} is loaded as {again:x?}", hex(&connection))) });
+            }
+            outcome.same(&here, &expected::store(&connection, room, NUMBERS), || format!("{} in {room} bytes", hex(&connection)));
+        }
+    }
+    outcome
+}
+
+/// Stored forms, whole, cut, lengthened and damaged.
+pub fn loads(random: &mut Random, forms: usize) -> Outcome {
+    let mut outcome = Outcome::new("loaded records");
+    for _ in 0..forms {
+        let form = records::stored(random);
+        outcome.same(&library::load(&form, CONNECTION), &expected::load(&form, CONNECTION), || hex(&form));
+    }
+    outcome
+}
+
+/// Every length of the numbers and of the connection, lent and given, and every kind code.
+pub fn buffers() -> Outcome {
+    let mut outcome = Outcome::new("buffer lengths and kind codes");
+    let line = b"PROXY TCP4 192.168.0.1 192.168.0.11 56324 443\r\n";
+    let Verdict::Accepted(header) = second::judge(line) else { panic!("W02 is a whole header") };
+    let mut form = vec![0; 18];
+    second::store(&header.record, &mut form).expect("room");
+    let area = [4, 0, 1, 9];
+    let mut given = connection::bytes(&header.record).to_vec();
+    given.extend([0; 3]);
+    let mut writes = |given: &[u8], numbers: usize, room: usize| {
+        let input = || format!("{} with {numbers} numbers in {room} bytes", hex(given));
+        outcome.same(&library::write_v1(given, room, numbers), &expected::write_v1(given, room, numbers), input);
+        outcome.same(&library::write_v2(given, &area, room, numbers), &expected::write_v2(given, &area, room, numbers), input);
+        outcome.same(&library::store(given, room, numbers), &expected::store(given, room, numbers), input);
+    };
+    for numbers in 0..=NUMBERS {
+        for length in 0..=CONNECTION {
+            writes(&given[..length], numbers, 60);
+        }
+        for room in 0..60 {
+            writes(&given[..SIZE], numbers, room);
+        }
+    }
+    for code in 0..=255 {
+        given[0] = code;
+        writes(&given[..SIZE], NUMBERS, 300);
+    }
+    for numbers in 0..=NUMBERS {
+        for length in 0..=CONNECTION {
+            let input = || format!("{numbers} numbers and {length} bytes");
+            outcome.same(&library::read(line, numbers, length), &expected::read(line, numbers, length), input);
+            outcome.same(&library::load(&form, length), &expected::load(&form, length), input);
+        }
+        outcome.same(&library::step(&area, 0, numbers), &expected::step(&area, 0, numbers), || format!("{numbers} numbers"));
+        outcome.same(&library::lookup(&area, 4, 1, numbers), &expected::lookup(&area, 4, 1, numbers), || format!("{numbers} numbers"));
     }
     outcome
 }

@@ -1,62 +1,50 @@
-//! Compares the proved program with the second program, answer line for answer line, on many inputs in one process each.
-//! Usage: compare FOLDER-OF-THE-PROGRAMS [HOW-MANY-GENERATED]
-mod headers;
-mod inputs;
-mod interface;
-mod library;
+//! The quick run: the built programs and the C library against the second program, with fixed seeds.
+//! Usage: compare FOLDER-OF-THE-PROGRAMS
 mod programs;
-mod writers;
 
-use inputs::Group;
-use std::path::PathBuf;
+use compare::inputs::{self, Group};
+use compare::random::Random;
+use compare::{hex, interface};
+use std::path::{Path, PathBuf};
 
 const SEED: u64 = 0x0D0A_0D0A_000D_0A51;
+const GENERATED: usize = 40_000;
 
 fn main() {
-    let mut args = std::env::args().skip(1);
-    let folder = PathBuf::from(args.next().expect("the folder of the built programs"));
-    let generated: usize = args.next().map_or(40_000, |n| n.parse().expect("a count"));
+    let folder = PathBuf::from(std::env::args().nth(1).expect("the folder of the built programs"));
     println!("compare: seed {SEED:#018x}");
     let (mut passed, mut failed, mut compared) = (0, 0, 0);
-    let groups = inputs::groups(SEED, generated);
-    let mut random = inputs::Random(SEED);
+    let mut count = |difference: bool| if difference { failed += 1 } else { passed += 1 };
+    let groups = inputs::groups(SEED, GENERATED);
+    let mut random = Random(SEED);
     for outcome in [
         interface::readings(groups.iter().flat_map(|group| &group.cases)),
-        interface::steps(&mut random, generated / 20),
-        interface::lookups(&mut random, generated / 20),
-        interface::lines(&mut random, generated / 40),
-        writers::blocks(&mut random, generated / 40),
-        writers::stored(&mut random, generated / 40),
-        writers::loads(&mut random, generated),
+        interface::steps(&mut random, GENERATED / 20),
+        interface::lookups(&mut random, GENERATED / 20),
+        interface::lines(&mut random, GENERATED / 40),
+        interface::blocks(&mut random, GENERATED / 40),
+        interface::stored(&mut random, GENERATED / 40),
+        interface::loads(&mut random, GENERATED),
+        interface::buffers(),
     ] {
         compared += outcome.compared;
-        match outcome.difference {
-            None => {
-                passed += 1;
-                println!("compare: {} {}: the same", outcome.compared, outcome.name);
-            }
-            Some(difference) => {
-                failed += 1;
-                println!("compare: {}: {difference}", outcome.name);
-            }
-        }
+        println!("compare: {} {}: {}", outcome.compared, outcome.name, outcome.difference.as_deref().unwrap_or("the same"));
+        count(outcome.difference.is_some());
     }
     for group in groups {
         let differences = compare(&folder, &group);
         compared += group.cases.len();
         println!("compare: {} inputs, {}: {}", group.cases.len(), group.name, if differences == 0 { "the same" } else { "DIFFERENT" });
-        if differences == 0 { passed += 1 } else { failed += 1 }
+        count(differences > 0);
     }
     for (name, input) in inputs::whole_runs() {
         let here = programs::judge(&folder, &input);
         let there = programs::line(&input[..input.len().min(65_536)]);
         compared += 1;
-        if here == there {
-            passed += 1;
-        } else {
-            failed += 1;
+        if here != there {
             report(name, &input, &here, &there);
         }
+        count(here != there);
     }
     println!("compare: {compared} inputs in all");
     println!("{passed} passed, {failed} failed");
@@ -64,7 +52,7 @@ fn main() {
 }
 
 /// How many answers differ; the first few are printed with their inputs.
-fn compare(folder: &std::path::Path, group: &Group) -> usize {
+fn compare(folder: &Path, group: &Group) -> usize {
     let answers = programs::cases(folder, &group.cases);
     if answers.len() != group.cases.len() {
         println!("compare: {}: {} answers to {} inputs", group.name, answers.len(), group.cases.len());
@@ -84,6 +72,5 @@ fn compare(folder: &std::path::Path, group: &Group) -> usize {
 }
 
 fn report(name: &str, input: &[u8], here: &str, there: &str) {
-    let hex: String = input.iter().take(400).map(|b| format!("{b:02x}")).collect();
-    println!("compare: {name}: input {hex} ({} bytes): the library says `{here}`, the second program `{there}`", input.len());
+    println!("compare: {name}: input {} ({} bytes): the library says `{here}`, the second program `{there}`", hex(input), input.len());
 }

@@ -7,12 +7,11 @@ use lib.ListN.{length, drop}
 use Rattle.exact.specs.Claim.{Verdict, accepted, more, refused}
 use Rattle.exact.specs.Network.{network}
 use Rattle.exact.specs.Pick.{pick}
-use Rattle.record.specs.declared.Kind.{Kind}
-use Rattle.record.specs.declared.Kind.the-variants.{Local, Unspecified, Ip4, Ip6, Unix}
+use Rattle.record.specs.declared.Kind.the-variants.{Unspecified}
 use Rattle.record.specs.declared.Record.{Record}
-use Rattle.record.specs.Kinds.{byteOf}
 use Rattle.record.specs.Records.{bare}
 use Rattle.header.specs.Header.{Header}
+use Rattle.store.specs.Stored.{codeOf}
 
 -- "Numbered answers": the refusal's number; 0 is accepted, 255 is more
 abbrev pub answerNumber : Verdict Header → ℕ
@@ -32,18 +31,10 @@ spokenRecord (accepted h n) = h .connection
 spokenRecord more = bare Unspecified
 spokenRecord (refused k p) = bare Unspecified
 
--- "a kind code (00 local, 01 unspecified, else as byte 13)"
-abbrev pub kindCode : Kind → ℕ
-kindCode Local = 0
-kindCode Unspecified = 1
-kindCode (Ip4 t) = byteOf (Ip4 t)
-kindCode (Ip6 t) = byteOf (Ip6 t)
-kindCode (Unix t) = byteOf (Unix t)
-
--- a record as 1 + 108 + 108 + 2 + 2 = 221 bytes
+-- a record as 1 + 108 + 108 + 2 + 2 = 221 bytes, the first its kind code in the stored form
 abbrev pub connectionBytes : Record → List ℕ
 connectionBytes r =
-    (kindCode (r .kind) ∷ []) ++ r .source ++ r .destination ++ network (r .«source_port») ++ network (r .«destination_port»)
+    (codeOf (r .kind) ∷ []) ++ r .source ++ r .destination ++ network (r .«source_port») ++ network (r .«destination_port»)
 
 -- what a buffer holds when its front is written; the rest stays as it was
 abbrev pub over : List ℕ → List ℕ → List ℕ

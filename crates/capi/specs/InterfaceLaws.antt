@@ -20,7 +20,7 @@ use Rattle.answer.specs.declared.Reading.{Reading}
 use Rattle.answer.specs.Answers.{Answers, toldVerdict, bareUnless, areaOf, numberOf}
 use Rattle.reader.specs.Area.{readArea, areaBy, blockEnd, endBy, areaStart, areaEnd}
 use Rattle.reader.specs.AreaLaws.{area-inside, area-part}
-use Rattle.capi.specs.declared.Told.{Told}
+use Rattle.capi.specs.declared.numbers.Told.{Told}
 use Rattle.capi.specs.Interface.{answerNumber, numbersOf, spokenRecord, connectionBytes, over, roomFor, readAnswer, readNumbers, readConnection}
 
 -- what is told of a reading of size bytes: the answer and the numbers of the verdict that it answers

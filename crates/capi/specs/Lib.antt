@@ -4,3 +4,5 @@ pub mod TlvInterface
 pub mod TlvLaws
 pub mod WriteInterface
 pub mod WriteLaws
+pub mod StoreInterface
+pub mod StoreLaws

@@ -11,7 +11,7 @@ use Rattle.lookup.specs.declared.Examined.{Examined}
 use Rattle.lookup.specs.Lookup.{LooksUp}
 use Rattle.walker.specs.declared.Shown.{Shown}
 use Rattle.walker.specs.Step.{startOf, lengthOf, placeAfter}
-use Rattle.capi.specs.declared.Told.{Told}
+use Rattle.capi.specs.declared.numbers.Told.{Told}
 use Rattle.capi.specs.Interface.{over}
 use Rattle.capi.specs.TlvInterface.{lookupNumber, lookupNumbers, LookedUp, stepNumber, typeOf, stepNumbers, stepAnswer, stepLeft}
 

@@ -1,35 +1,22 @@
--- What the C functions that write a connection answer and leave (document 01, "Numbered answers" and "The text line").
+-- What the C functions that write a connection answer and leave (document 01, "Numbered answers").
+use mathlib.Core.Path.{_≡_}
 use mathlib.Core.List.{List, [], _∷_}
+use mathlib.Core.Option.{Option, some, none}
 use Prim.Native.Nat.{ℕ}
 use lib.Dec.{eqb, leb}
 use lib.ListN.{length, take, drop, getD}
 use Rattle.exact.specs.Pick.{pick}
-use Rattle.record.specs.declared.Transport.the-variants.{Stream, Datagram}
 use Rattle.record.specs.declared.Kind.{Kind}
-use Rattle.record.specs.declared.Kind.the-variants.{Local, Unspecified, Ip4, Ip6, Unix}
+use Rattle.record.specs.declared.Kind.the-variants.{Unspecified}
 use Rattle.record.specs.declared.Record.{Record}
 use Rattle.record.specs.AddressBlock.{numberAt}
 use Rattle.record.specs.Records.{bare}
 use Rattle.answer.specs.declared.Written.{Written}
 use Rattle.answer.specs.declared.Written.the-variants.{Bytes, Refused}
-use Rattle.line_writer.specs.Written.{writtenLine, lineAnswer}
 use Rattle.answer.specs.Answers.{faultNumber, outputAfter}
-use Rattle.capi.specs.declared.Coded.{Coded}
-use Rattle.capi.specs.declared.Coded.the-variants.{Known, Unknown}
-use Rattle.capi.specs.declared.Asked.{Asked}
+use Rattle.store.specs.Stored.{kindOf}
+use Rattle.capi.specs.declared.connection.Asked.{Asked}
 use Rattle.capi.specs.Interface.{over}
-
--- "a kind code (00 local, 01 unspecified, else as byte 13)"
-abbrev pub codedKind : ℕ → Coded
-codedKind c =
-    pick (eqb c 0x00) (Known Local)
-    (pick (eqb c 0x01) (Known Unspecified)
-    (pick (eqb c 0x11) (Known (Ip4 Stream))
-    (pick (eqb c 0x12) (Known (Ip4 Datagram))
-    (pick (eqb c 0x21) (Known (Ip6 Stream))
-    (pick (eqb c 0x22) (Known (Ip6 Datagram))
-    (pick (eqb c 0x31) (Known (Unix Stream))
-    (pick (eqb c 0x32) (Known (Unix Datagram)) Unknown)))))))
 
 -- the record of a connection's 221 bytes: `connectionBytes` the other way
 abbrev pub givenRecord : Kind → List ℕ → Record
@@ -46,13 +33,13 @@ givenRecord k b =
 abbrev pub refusedWith : ℕ → Asked
 refusedWith n = record { number = n; connection = bare Unspecified }
 
-abbrev pub byKind : Coded → List ℕ → Asked
-byKind (Known k) b = record { number = 0; connection = givenRecord k b }
-byKind Unknown b = refusedWith 17
+abbrev pub byKind : Option Kind → List ℕ → Asked
+byKind (some k) b = record { number = 0; connection = givenRecord k b }
+byKind none b = refusedWith 17
 
 abbrev pub request : List ℕ → ℕ → Asked
 request b room =
-    pick (leb 4 room) (pick (eqb (length b) 221) (byKind (codedKind (getD b 0 0)) b) (refusedWith 18)) (refusedWith 14)
+    pick (leb 4 room) (pick (eqb (length b) 221) (byKind (kindOf (getD b 0 0)) b) (refusedWith 18)) (refusedWith 14)
 
 -- a writer's answer: 0, or the fault's number
 abbrev pub writtenNumber : Written → ℕ
@@ -67,14 +54,10 @@ writtenLength (Refused f) = 0
 abbrev pub writtenNumbers : Written → List ℕ
 writtenNumbers w = writtenLength w ∷ 0 ∷ 0 ∷ 0 ∷ []
 
--- the answer of `dawnhawse_write_v1`, and what it leaves in the output and the numbers
-abbrev pub lineAnswerTo : Asked → List ℕ → ℕ
-lineAnswerTo a output = pick (eqb (a .number) 0) (writtenNumber (lineAnswer (a .connection) (length output))) (a .number)
-
-abbrev pub lineOutput : Asked → List ℕ → List ℕ
-lineOutput a output =
-    pick (eqb (a .number) 0) (outputAfter (lineAnswer (a .connection) (length output)) (writtenLine (a .connection)) output) output
-
-abbrev pub lineNumbers : Asked → List ℕ → List ℕ → List ℕ
-lineNumbers a output numbers =
-    pick (eqb (a .number) 0) (over (writtenNumbers (lineAnswer (a .connection) (length output))) numbers) numbers
+-- what a C function leaves that asks a writer: the number of a request that is refused, and nothing written; else the writer's answer, its text
+-- in the output, and the length in the numbers
+pub record Writes (answerFor : Record → (room : ℕ) → Written) (text : Record → List ℕ) (a : Asked) (output numbers : List ℕ)
+    (answer : ℕ) (outputLeft numbersLeft : List ℕ) : Type 0 where
+  pub answers : answer ≡ pick (eqb (a .number) 0) (writtenNumber (answerFor (a .connection) (length output))) (a .number)
+  pub writes : outputLeft ≡ pick (eqb (a .number) 0) (outputAfter (answerFor (a .connection) (length output)) (text (a .connection)) output) output
+  pub tells : numbersLeft ≡ pick (eqb (a .number) 0) (over (writtenNumbers (answerFor (a .connection) (length output))) numbers) numbers

@@ -42,7 +42,7 @@ pub struct Loaded {
 }
 
 // The code of a kind: local and unspecified have their own, the others byte 13.
-fn code_of(kind: Kind) -> u8
+pub fn code_of(kind: Kind) -> u8
     ensures { λ r. ⌜ r ≡ codeOf kind ⌝ }
 {
     match kind {
@@ -55,7 +55,7 @@ fn code_of(kind: Kind) -> u8
 }
 
 // The kind of a code.
-fn kind_of(code: u8) -> Family
+pub fn kind_of(code: u8) -> Family
     ensures { λ r. ⌜ toldFamily r ≡ kindOf code ⌝ }
 {
     match code {

@@ -1,0 +1,111 @@
+//! What the C functions must leave: the words of include/dawnhawse.h, with the second program's answers.
+use crate::connection::{self, SIZE};
+use crate::{Left, BYTE, NUMBER};
+use second::{Answer, Kind, Record, Step, Verdict};
+
+const NO_ROOM: u32 = 14;
+const END: u32 = 252;
+const ABSENT: u32 = 253;
+const GAVE_UP: u32 = 254;
+const MORE: u32 = 255;
+
+/// What is left where nothing is written.
+fn untouched(answer: u32, numbers_len: usize, bytes_len: usize) -> Left {
+    Left { answer, numbers: vec![NUMBER; numbers_len], bytes: vec![BYTE; bytes_len] }
+}
+
+/// Four numbers at the front of the numbers, which have room.
+fn told(answer: u32, four: [u64; 4], numbers_len: usize, bytes: Vec<u8>) -> Left {
+    let mut left = untouched(answer, numbers_len, 0);
+    left.numbers[..4].copy_from_slice(&four);
+    left.bytes = bytes;
+    left
+}
+
+/// A connection at the front of its buffer, which has room.
+fn with_connection(record: &Record, connection_len: usize) -> Vec<u8> {
+    let mut bytes = vec![BYTE; connection_len];
+    bytes[..SIZE].copy_from_slice(&connection::bytes(record));
+    bytes
+}
+
+pub fn read(bytes: &[u8], numbers_len: usize, connection_len: usize) -> Left {
+    if numbers_len < 4 || connection_len < SIZE {
+        return untouched(NO_ROOM, numbers_len, connection_len);
+    }
+    let nobody = Record::blank(Kind::Unspecified);
+    let (answer, four, record) = match second::judge(bytes) {
+        Verdict::Accepted(header) => {
+            let area = &header.tlv_area;
+            (0, [header.length as u64, u64::from(header.version), area.start as u64, area.len() as u64], header.record)
+        }
+        Verdict::More => (MORE, [0; 4], nobody),
+        Verdict::Refused { number, place } => (u32::from(number), [place as u64, 0, 0, 0], nobody),
+    };
+    told(answer, four, numbers_len, with_connection(&record, connection_len))
+}
+
+pub fn step(area: &[u8], at: usize, numbers_len: usize) -> Left {
+    if numbers_len < 4 {
+        return untouched(NO_ROOM, numbers_len, 0);
+    }
+    let (answer, four) = match second::step(area, at) {
+        Step::Shown { kind, value, next } => (0, [next as u64, u64::from(kind), value.start as u64, value.len() as u64]),
+        Step::End => (END, [at as u64, 0, 0, 0]),
+        Step::Refused { number } => (u32::from(number), [at as u64, 0, 0, 0]),
+    };
+    told(answer, four, numbers_len, Vec::new())
+}
+
+pub fn lookup(area: &[u8], wanted: u8, limit: usize, numbers_len: usize) -> Left {
+    if numbers_len < 4 {
+        return untouched(NO_ROOM, numbers_len, 0);
+    }
+    let found = second::lookup(area, wanted, limit);
+    let answer = match found.answer {
+        Answer::Found => 0,
+        Answer::Absent => ABSENT,
+        Answer::GaveUp => GAVE_UP,
+        Answer::Refused { number } => u32::from(number),
+    };
+    told(answer, [found.count as u64, u64::from(wanted), found.start as u64, found.length as u64], numbers_len, Vec::new())
+}
+
+/// What a writer leaves of a connection's bytes.
+fn written(connection: &[u8], room: usize, numbers_len: usize, write: impl FnOnce(&Record, &mut [u8]) -> Result<usize, u8>) -> Left {
+    if numbers_len < 4 {
+        return untouched(NO_ROOM, numbers_len, room);
+    }
+    let record = match connection::record(connection) {
+        Ok(record) => record,
+        Err(answer) => return untouched(answer, numbers_len, room),
+    };
+    let mut out = vec![BYTE; room];
+    match write(&record, &mut out) {
+        Ok(length) => told(0, [length as u64, 0, 0, 0], numbers_len, out),
+        Err(number) => told(u32::from(number), [0; 4], numbers_len, out),
+    }
+}
+
+pub fn write_v1(connection: &[u8], room: usize, numbers_len: usize) -> Left {
+    written(connection, room, numbers_len, second::write_v1)
+}
+
+pub fn write_v2(connection: &[u8], area: &[u8], room: usize, numbers_len: usize) -> Left {
+    written(connection, room, numbers_len, |record, out| second::write_v2(record, area, out))
+}
+
+pub fn store(connection: &[u8], room: usize, numbers_len: usize) -> Left {
+    written(connection, room, numbers_len, second::store)
+}
+
+pub fn load(stored: &[u8], connection_len: usize) -> Left {
+    if connection_len < SIZE {
+        return untouched(NO_ROOM, 0, connection_len);
+    }
+    let (answer, record) = match second::load(stored) {
+        Ok(record) => (0, record),
+        Err(number) => (u32::from(number), Record::blank(Kind::Unspecified)),
+    };
+    Left { answer, numbers: Vec::new(), bytes: with_connection(&record, connection_len) }
+}

@@ -1,0 +1,75 @@
+//! Records, TLV areas and stored forms at random.
+use crate::connection::{self, SIZE};
+use crate::headers;
+use crate::random::Random;
+use second::{Kind, Record, Transport};
+
+/// A record of any kind whose unused bytes and ports are zero.
+pub fn clean(random: &mut Random) -> Record {
+    let transport = [Transport::Stream, Transport::Datagram][random.below(2)];
+    let kinds = [
+        Kind::Local,
+        Kind::Unspecified,
+        Kind::Ip4(transport),
+        Kind::Ip6(transport),
+        Kind::Ip4(Transport::Stream),
+        Kind::Ip6(Transport::Stream),
+        Kind::Unix(transport),
+    ];
+    let mut record = Record::blank(kinds[random.below(kinds.len())]);
+    let n = record.kind.address_length();
+    for i in 0..n {
+        record.source[i] = if random.below(3) == 0 { 0 } else { random.byte() };
+        record.destination[i] = if random.below(3) == 0 { 0 } else { random.byte() };
+    }
+    if record.kind.has_ports() {
+        record.source_port = u16::from(random.byte()) * [0, 1, 257][random.below(3)];
+        record.destination_port = u16::from(random.byte()) * [0, 1, 257][random.below(3)];
+    }
+    record
+}
+
+/// A connection: of a clean record, or with one byte changed.
+pub fn any(random: &mut Random) -> [u8; SIZE] {
+    let mut bytes = connection::bytes(&clean(random));
+    if random.below(5) == 0 {
+        bytes[random.below(SIZE)] ^= 1 << random.below(8);
+    }
+    bytes
+}
+
+/// A TLV area, whole or damaged.
+pub fn area(random: &mut Random) -> Vec<u8> {
+    let mut area = Vec::new();
+    for _ in 0..random.below(7) {
+        let length = if random.below(5) == 0 { random.below(300) } else { random.below(4) };
+        area.extend(headers::tlv(random.below(4) as u8, length));
+    }
+    if random.below(3) == 0 && !area.is_empty() {
+        let place = random.below(area.len());
+        area[place] = random.byte();
+    }
+    if random.below(5) == 0 {
+        area.truncate(random.below(area.len() + 1));
+    }
+    area
+}
+
+/// An area that fills a header with such an address block to 65,535 bytes behind the length, or one byte more.
+pub fn longest_area(block: usize, random: &mut Random) -> Vec<u8> {
+    headers::tlv(4, 65_535 - 3 - block + random.below(2))
+}
+
+/// A stored form, whole, cut, lengthened or with one of its first bytes changed.
+pub fn stored(random: &mut Random) -> Vec<u8> {
+    let mut form = vec![0; 6 + 216];
+    let n = second::store(&clean(random), &mut form).expect("a clean record and room");
+    form.truncate(n);
+    match random.below(4) {
+        0 => form.truncate(random.below(n + 1)),
+        1 => form.push(random.byte()),
+        2 => form[random.below(6)] = random.byte(),
+        _ => (),
+    }
+    form
+}

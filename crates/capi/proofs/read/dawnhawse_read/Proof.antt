@@ -1,0 +1,63 @@
+-- The reading answers the verdict, `tell` tells its numbers, and the two buffers are written where both have room.
+use native.Mathlib.Omega.{arith}
+use denote.Ref.{now}
+use Rattle.header.specs.Exactness.{verdict}
+use Rattle.capi.specs.InterfaceLaws.{few-numbers, short-connection, untouched, written}
+use borrow.Author.Needs.{needs}
+use Rattle.capi.proofs.read.dawnhawse_read.Statement.{statement}
+use Rattle.capi.proofs.read.dawnhawse_read.Tie as tie
+
+returns : tie.Need-returns
+returns c =
+    let x = c .before .before .before .before .args in
+    untouched (verdict (now (x .bytes))) (now (x .numbers)) (now (x .connection)) (few-numbers (now (x .numbers)) (now (x .connection)) (omega arith))
+
+returns-2 : tie.Need-returns-2
+returns-2 c =
+    let x = c .before .before .before .before .before .args in
+    untouched (verdict (now (x .bytes))) (now (x .numbers)) (now (x .connection))
+    (short-connection (now (x .numbers)) (now (x .connection)) (omega arith) (omega arith))
+
+read-requires : tie.Need-read-requires
+read-requires c κs = search needs
+
+tell-requires : tie.Need-tell-requires
+tell-requires c κs = search needs
+
+put-connection-requires : tie.Need-put-connection-requires
+put-connection-requires c κs = search needs
+
+put-numbers-requires : tie.Need-put-numbers-requires
+put-numbers-requires c κs = search needs
+
+same-length : tie.Need-same-length
+same-length c = search needs
+
+same-length-2 : tie.Need-same-length-2
+same-length-2 c = search needs
+
+returns-3 : tie.Need-returns-3
+returns-3 c =
+    let put = c .before .before in
+    let connected = put .before .before .before .before in
+    let told = connected .before .before .before .before .before in
+    let read = told .before in
+    let roomy = read .before in
+    let x = roomy .before .before .before .before .before .args in
+    written (verdict (now (x .bytes))) (now (x .numbers)) (now (x .connection)) (read .read .result) (told .tell .result) (now (x .bytes)) _ _
+    (omega arith) (omega arith) (read .read .ensures .answers) (told .tell .ensures) (put .put-numbers .ensures)
+    (connected .put-connection .ensures)
+
+pub dawnhawse-read-spec : {M : Type 1} → statement M
+dawnhawse-read-spec =
+    tie.close
+    (tie.spec
+    returns
+    returns-2
+    read-requires
+    tell-requires
+    put-connection-requires
+    put-numbers-requires
+    same-length
+    same-length-2
+    returns-3)

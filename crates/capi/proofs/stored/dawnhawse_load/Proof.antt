@@ -1,0 +1,44 @@
+-- `load` ensures what is loaded, and it is told where there is room.
+use native.Mathlib.Omega.{arith}
+use denote.Ref.{now}
+use Rattle.store.specs.Loading.{loadAnswer}
+use Rattle.capi.specs.StoreLaws.{load-told, load-untold}
+use borrow.Author.Needs.{needs}
+use Rattle.capi.proofs.stored.dawnhawse_load.Statement.{statement}
+use Rattle.capi.proofs.stored.dawnhawse_load.Tie as tie
+
+returns : tie.Need-returns
+returns c =
+    let x = c .before .before .before .args in
+    load-untold (loadAnswer (now (x .stored))) (now (x .connection)) (omega arith)
+
+load-requires : tie.Need-load-requires
+load-requires c κs = search needs
+
+put-connection-requires : tie.Need-put-connection-requires
+put-connection-requires c κs = search needs
+
+outcome-number-requires : tie.Need-outcome-number-requires
+outcome-number-requires c κs = search needs
+
+same-length : tie.Need-same-length
+same-length c = search needs
+
+returns-2 : tie.Need-returns-2
+returns-2 c =
+    let connected = c .before .before .before in
+    let loaded = connected .before .before .before .before .before in
+    let x = loaded .before .before .before .before .args in
+    load-told (loadAnswer (now (x .stored))) (now (x .connection)) (omega arith) (loaded .load .ensures) (c .outcome-number .ensures)
+    (connected .put-connection .ensures)
+
+pub dawnhawse-load-spec : {M : Type 1} → statement M
+dawnhawse-load-spec =
+    tie.close
+    (tie.spec
+    returns
+    load-requires
+    put-connection-requires
+    outcome-number-requires
+    same-length
+    returns-2)

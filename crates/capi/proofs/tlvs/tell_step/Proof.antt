@@ -1,0 +1,42 @@
+-- What is shown lies in the area, so its end is a place; each case is told as its numbers.
+use mathlib.Core.Path.{sym, ap, subst}
+use Prim.Native.Nat.{_+_, _≤_}
+use native.Mathlib.Omega.{arith}
+use Rattle.walker.specs.declared.Shown.{Shown}
+use Rattle.walker.specs.Step.{startOf, lengthOf}
+use Rattle.capi.specs.TlvLaws.{shownTold}
+use borrow.Author.Needs.{needs}
+use Rattle.capi.proofs.tlvs.tell_step.Statement.{statement}
+use Rattle.capi.proofs.tlvs.tell_step.Tie as tie
+
+enum-known-shown : tie.Need-enum-known-shown
+enum-known-shown c = search needs
+
+add-t8 : tie.Need-add-t8
+add-t8 c =
+    let start = c .before .before .before in
+    let room = subst (λ (x : Shown). startOf x + lengthOf x ≤ start .args .size) (c .before .shown .given .1) (start .pre) in
+    omega arith
+
+cast-t10 : tie.Need-cast-t10
+cast-t10 c = search needs
+
+enum-told : tie.Need-enum-told
+enum-told c = search needs
+
+enum-told-2 : tie.Need-enum-told-2
+enum-told-2 c = search needs
+
+returns : tie.Need-returns
+returns c = ap (shownTold (c .before .before .before .args .at)) (sym (c .before .shown .given .1))
+
+returns-2 : tie.Need-returns-2
+returns-2 c = ap (shownTold (c .before .before .args .at)) (sym (c .enum-told .given .1))
+
+returns-3 : tie.Need-returns-3
+returns-3 c = ap (shownTold (c .before .before .args .at)) (sym (c .enum-told2 .given .1))
+
+pub tell-step-spec : {M : Type 1} → statement M
+tell-step-spec =
+    tie.close
+    (tie.spec enum-known-shown add-t8 cast-t10 enum-told enum-told-2 returns returns-2 returns-3)

@@ -1,0 +1,57 @@
+-- `request` ensures what is asked, `write_block` what is written, and `tell_written` its numbers.
+use mathlib.Core.Path.{sym, ap, _∙_}
+use denote.Ref.{now}
+use lib.ListN.{length}
+use Rattle.record.specs.declared.Record.{Record}
+use Rattle.block_writer.specs.Written.{blockAnswer, writtenBlock}
+use Rattle.capi.specs.declared.connection.Asked.{Asked}
+use Rattle.capi.specs.WriteLaws.{asks-roomy, refuses, passes-on}
+use borrow.Author.Needs.{needs}
+use Rattle.capi.proofs.write.dawnhawse_write_v2.Statement.{statement}
+use Rattle.capi.proofs.write.dawnhawse_write_v2.Tie as tie
+
+request-requires : tie.Need-request-requires
+request-requires c κs = search needs
+
+returns : tie.Need-returns
+returns c =
+    let asked = c .before .before in
+    let x = asked .before .before .before .before .before .args in
+    refuses (λ (r : Record). blockAnswer r (now (x .area))) (λ (r : Record). writtenBlock r (now (x .area))) (now (x .out)) (now (x .numbers)) (asked .request .result) (asked .request .ensures) (c .if1 .taken)
+
+write-block-requires : tie.Need-write-block-requires
+write-block-requires c κs = search needs
+
+tell-written-requires : tie.Need-tell-written-requires
+tell-written-requires c κs =
+    let written = c .before .before .before in
+    let asked = written .before .before .before .before in
+    let x = asked .before .before .before .before .before .args in
+    asks-roomy (now (x .connection)) (length (now (x .numbers))) (sym (ap (λ (a : Asked). a .number) (asked .request .ensures)) ∙ written .before .before .if1 .left)
+
+same-length : tie.Need-same-length
+same-length c = search needs
+
+same-length-2 : tie.Need-same-length-2
+same-length-2 c = search needs
+
+returns-2 : tie.Need-returns-2
+returns-2 c =
+    let told = c .before .before in
+    let written = told .before .before .before .before in
+    let asked = written .before .before .before .before in
+    let x = asked .before .before .before .before .before .args in
+    passes-on (λ (r : Record). blockAnswer r (now (x .area))) (λ (r : Record). writtenBlock r (now (x .area))) (now (x .out)) (now (x .numbers)) (asked .request .result) (written .write-block .result) (asked .request .ensures)
+    (written .before .before .if1 .left) (written .write-block .ensures .0) (written .write-block .ensures .1) (told .tell-written .ensures)
+
+pub dawnhawse-write-v2-spec : {M : Type 1} → statement M
+dawnhawse-write-v2-spec =
+    tie.close
+    (tie.spec
+    request-requires
+    returns
+    write-block-requires
+    tell-written-requires
+    same-length
+    same-length-2
+    returns-2)

@@ -1,0 +1,111 @@
+// A connection as 221 bytes: the stored form's kind code, two addresses of 108 bytes, and two ports, high byte first.
+use answer::blank;
+use record::Family;
+use record::Kind;
+use record::Record;
+use store::code_of;
+use store::kind_of;
+ghost use mathlib.Core.Path.{_≡_};
+ghost use Prim.Native.Nat.{_+_, _*_, _≤_};
+ghost use lib.ListN.{length, take, drop};
+ghost use Rattle.capi.specs.Interface.{connectionBytes, over};
+ghost use Rattle.capi.specs.WriteInterface.{givenRecord, request as requestOf};
+
+// Puts a connection's parts at the front of the output.
+pub(crate) fn put_connection(
+    kind: Kind,
+    source: [u8; 108],
+    destination: [u8; 108],
+    source_port: u16,
+    destination_port: u16,
+    out: &mut [u8],
+)
+    requires { ⌜ 221 ≤ length (now out) ⌝ }
+    ensures { λ _. ⌜ now (out .exit) ≡ over (connectionBytes (record {
+      kind = kind;
+      source = source;
+      destination = destination;
+      «source_port» = «source_port»;
+      «destination_port» = «destination_port»;
+    })) (now (out .entry)) ⌝ }
+{
+    let code = [code_of(kind)];
+    let from = [(source_port / 256) as u8, (source_port % 256) as u8];
+    let to = [
+        (destination_port / 256) as u8,
+        (destination_port % 256) as u8,
+    ];
+    record::put(&code, out, 0);
+    record::put(&source, out, 1);
+    record::put(&destination, out, 109);
+    record::put(&from, out, 217);
+    record::put(&to, out, 219);
+}
+
+// The address at a place of a connection.
+fn address_at(bytes: &[u8], at: usize) -> [u8; 108]
+    requires { ⌜ at + 108 ≤ length (now bytes) ⌝ }
+    ensures { λ r. ⌜ r ≡ take 108 (drop at (now (bytes .entry))) ⌝ }
+{
+    let mut held = [0u8; 108];
+    let end = at + 108;
+    record::put(&bytes[at..end], &mut held, 0);
+    held
+}
+
+// A port of two bytes, high byte first.
+fn port(high: u8, low: u8) -> u16
+    ensures { λ r. ⌜ r ≡ high * 256 + low ⌝ }
+{
+    high as u16 * 256 + low as u16
+}
+
+// The record of a connection of this kind.
+fn connection_of(kind: Kind, bytes: &[u8]) -> Record
+    requires { ⌜ length (now bytes) ≡ 221 ⌝ }
+    ensures { λ r. ⌜ r ≡ givenRecord kind (now (bytes .entry)) ⌝ }
+{
+    let source = address_at(bytes, 1);
+    let destination = address_at(bytes, 109);
+    Record {
+        kind,
+        source,
+        destination,
+        source_port: port(bytes[217], bytes[218]),
+        destination_port: port(bytes[219], bytes[220]),
+    }
+}
+
+// What a writer is asked for: a record, or the number that refuses it before its record is looked at.
+pub struct Asked {
+    pub number: u32,
+    pub connection: Record,
+}
+
+// What the bytes of a connection ask for, with room for so many numbers.
+pub(crate) fn request(bytes: &[u8], room: usize) -> Asked
+    ensures { λ r. ⌜ r ≡ requestOf (now (bytes .entry)) room ⌝ }
+{
+    if room < 4 {
+        return Asked {
+            number: 14,
+            connection: blank(Kind::Unspecified),
+        };
+    }
+    if bytes.len() != 221 {
+        return Asked {
+            number: 18,
+            connection: blank(Kind::Unspecified),
+        };
+    }
+    match kind_of(bytes[0]) {
+        Family::Known(kind) => Asked {
+            number: 0,
+            connection: connection_of(kind, bytes),
+        },
+        Family::Unknown => Asked {
+            number: 17,
+            connection: blank(Kind::Unspecified),
+        },
+    }
+}

@@ -1,0 +1,97 @@
+// Looking into a TLV area, for C callers.
+use crate::numbers::Told;
+use crate::numbers::put_numbers;
+use lookup::Answer;
+use walker::Shown;
+ghost use mathlib.Core.Path.{_≡_};
+ghost use Prim.Native.Nat.{_+_, _≤_};
+ghost use Rattle.walker.specs.Step.{stepAt, startOf, lengthOf};
+ghost use Rattle.capi.specs.TlvInterface.{lookupNumber, LookedUp, stepAnswer, stepLeft};
+ghost use Rattle.capi.specs.TlvLaws.{shownTold};
+
+// The number of a lookup's answer.
+fn lookup_number(answer: Answer) -> u32
+    ensures { λ r. ⌜ r ≡ lookupNumber answer ⌝ }
+{
+    match answer {
+        Answer::Found => 0,
+        Answer::Absent => 253,
+        Answer::GaveUp => 254,
+        Answer::IllFormed => 12,
+    }
+}
+
+// Looks for the first TLV of a type in a TLV area, of which at most as many TLVs are examined as the limit says. With room for 4 numbers
+// they are told; else nothing is written.
+#[no_mangle]
+pub extern "C" fn dawnhawse_lookup(
+    area: &[u8],
+    wanted: u8,
+    limit: usize,
+    numbers: &mut [u64],
+) -> u32
+    ensures { λ r. ⌜ LookedUp (now (area .entry)) wanted limit (now (numbers .entry)) r (now (numbers .exit)) ⌝ }
+{
+    let examined = lookup::lookup(area, wanted, limit);
+    let answer = examined.answer;
+    if numbers.len() < 4 {
+        return 14;
+    }
+    put_numbers(
+        numbers,
+        examined.count as u64,
+        wanted as u64,
+        examined.start as u64,
+        examined.length as u64,
+    );
+    lookup_number(answer)
+}
+
+// What a step shows, as numbers; the value lies in the size bytes of the area.
+fn tell_step(shown: Shown, at: usize, size: usize) -> Told
+    requires { ⌜ startOf shown + lengthOf shown ≤ size ⌝ }
+    ensures { λ r. ⌜ r ≡ shownTold at shown ⌝ }
+{
+    match shown {
+        Shown::Tlv {
+            tlv_type,
+            start,
+            length,
+        } => Told {
+            answer: 0,
+            first: (start + length) as u64,
+            second: tlv_type as u64,
+            start: start as u64,
+            length: length as u64,
+        },
+        Shown::End => Told {
+            answer: 252,
+            first: at as u64,
+            second: 0,
+            start: 0,
+            length: 0,
+        },
+        Shown::Refused => Told {
+            answer: 12,
+            first: at as u64,
+            second: 0,
+            start: 0,
+            length: 0,
+        },
+    }
+}
+
+// One step over a TLV area from a place. With room for 4 numbers they are told; else nothing is written.
+#[no_mangle]
+pub extern "C" fn dawnhawse_step(area: &[u8], at: usize, numbers: &mut [u64]) -> u32
+    ensures { λ r. ⌜ (r ≡ stepAnswer (stepAt (now (area .entry)) at) (now (numbers .entry)))
+        × (now (numbers .exit) ≡ stepLeft at (stepAt (now (area .entry)) at) (now (numbers .entry))) ⌝ }
+{
+    if numbers.len() < 4 {
+        return 14;
+    }
+    let shown = walker::step_at(area, at);
+    let told = tell_step(shown, at, area.len());
+    put_numbers(numbers, told.first, told.second, told.start, told.length);
+    told.answer
+}
