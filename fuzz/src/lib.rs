@@ -1,0 +1,38 @@
+//! A libFuzzer target: the C library and the second program on the same input. A difference ends the run.
+use compare::connection::SIZE;
+use compare::{expected, hex, library, same};
+
+/// # Safety
+/// As libFuzzer calls it: size bytes are lent behind data.
+#[no_mangle]
+pub unsafe extern "C" fn LLVMFuzzerTestOneInput(data: *const u8, size: usize) -> i32 {
+    // SAFETY: the caller's promise; a slice of no bytes must not be made from NULL.
+    let input = if size == 0 { &[] } else { unsafe { std::slice::from_raw_parts(data, size) } };
+    if let Err(difference) = compare(input) {
+        eprintln!("{difference}");
+        std::process::abort();
+    }
+    0
+}
+
+/// The first byte chooses the function (its low three bits) and how many numbers are lent, the next two are a room, a place or a limit, and
+/// the rest is the input.
+fn compare(input: &[u8]) -> Result<(), String> {
+    let [choice, high, low, input @ ..] = input else { return Ok(()) };
+    let numbers = match choice >> 3 {
+        few @ 0..=3 => usize::from(few),
+        _ => 6,
+    };
+    let number = usize::from(u16::from_be_bytes([*high, *low]));
+    let (connection, area) = input.split_at(input.len().min(SIZE));
+    let (here, there) = match choice & 7 {
+        0 | 1 => (library::read(input, numbers, SIZE + 3), expected::read(input, numbers, SIZE + 3)),
+        2 => (library::step(input, number, numbers), expected::step(input, number, numbers)),
+        3 => (library::lookup(input, *high, usize::from(*low), numbers), expected::lookup(input, *high, usize::from(*low), numbers)),
+        4 => (library::write_v1(input, number, numbers), expected::write_v1(input, number, numbers)),
+        5 => (library::write_v2(connection, area, number, numbers), expected::write_v2(connection, area, number, numbers)),
+        6 => (library::store(input, number, numbers), expected::store(input, number, numbers)),
+        _ => (library::load(input, SIZE), expected::load(input, SIZE)),
+    };
+    same(&here, &there, || format!("function {}, {number}, {numbers} numbers, {}", choice & 7, hex(input)))
+}
