@@ -76,17 +76,6 @@ module _ (good : ℕ → Bool) (k : ℕ) where
 pub takes-number : (k : ℕ) → Takes (number always k) 2 numberAt
 takes-number k = record { short = number-short always k; full = λ t b h. number-full always k true t b h refl }
 
--- a port of n bytes: none, if they are fewer than two
-pub no-port : (n : ℕ) (t : List ℕ) → n < 2 → 0 ≡ portAt n t
-no-port zero t h = refl
-no-port (suc zero) t h = refl
-no-port (suc (suc n)) t h = absurd (omega arith)
-
-pub some-port : (n : ℕ) (t : List ℕ) → 2 ≤ n → portAt n t ≡ numberAt t
-some-port zero t h = absurd (omega arith)
-some-port (suc zero) t h = absurd (omega arith)
-some-port (suc (suc n)) t h = refl
-
 pub takes-port : (kind : Kind) → Takes (port kind .verdict) (portLength kind) (portAt (portLength kind))
 takes-port Local = takes-none 0
 takes-port Unspecified = takes-none 0

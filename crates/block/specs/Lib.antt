@@ -1,7 +1,6 @@
 pub mod Parts
 pub mod Takes
 pub mod Leaves
-pub mod Copies
 pub mod KindLaws
 pub mod Accepted
 pub mod Skipped

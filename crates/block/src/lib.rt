@@ -12,7 +12,7 @@ use record::Family;
 use record::Kind;
 use record::Record;
 use record::Transport;
-use record::address_length;
+use record::addresses_of;
 use record::block_length;
 use record::family_of;
 use tlv::region;
@@ -25,10 +25,10 @@ ghost use Rattle.exact.specs.Claim.{accepted as acceptedOf};
 ghost use Rattle.exact.specs.Field.{shift};
 ghost use Rattle.exact.specs.Parser.{_then_};
 ghost use Rattle.record.specs.Kinds.{family, blockLength};
-ghost use Rattle.record.specs.Records.{held, bare};
+ghost use Rattle.record.specs.Records.{bare};
 ghost use Rattle.header.specs.BlockFields.{blocked, block as blockField, command as commandField, commandRest, familyField, familyRest, skipped as skippedField, addressed as addressedField, addresses as addressesField, fits as fitsIn};
 ghost use Rattle.answer.specs.Answers.{Answers, areaOf};
-ghost use Rattle.block.specs.Parts.{numberAt, portAt, recordAt};
+ghost use Rattle.block.specs.Parts.{numberAt, recordAt};
 
 // The number at a place, high byte first.
 fn number(s: &[u8], at: usize) -> u16
@@ -40,48 +40,12 @@ fn number(s: &[u8], at: usize) -> u16
     high * 256 + low
 }
 
-// The port of n bytes, 2 or none, at a place.
-fn port(s: &[u8], at: usize, n: usize) -> u16
-    requires { ⌜ at + n ≤ length (now s) ⌝ }
-    ensures { λ r. ⌜ r ≡ portAt n (drop at (now (s .entry))) ⌝ }
-{
-    if n < 2 {
-        return 0;
-    }
-    number(s, at)
-}
-
-// The address of n bytes at a place, as a record holds it.
-fn address(s: &[u8], at: usize, n: usize) -> [u8; 108]
-    requires { ⌜ (n ≤ 108) × (at + n ≤ length (now s)) ⌝ }
-    ensures { λ r. ⌜ r ≡ held (take n (drop at (now (s .entry)))) ⌝ }
-{
-    let mut bytes = [0u8; 108];
-    let mut i: usize = 0;
-    while i < n {
-        bytes[i] = s[at + i];
-        i += 1;
-    }
-    bytes
-}
-
-// The record that the address block at 16 says. What the addresses leave of the block is two ports, or nothing.
+// The record that the address block at 16 says.
 fn connection(s: &[u8], kind: Kind) -> Record
-    requires { ⌜ 16 + blockLength kind ≤ length (now s) ⌝ }
+    requires { ⌜ 16 ≤ length (now s) ⌝ }
     ensures { λ r. ⌜ r ≡ recordAt kind 16 (now (s .entry)) ⌝ }
 {
-    let n = address_length(kind);
-    let m = (block_length(kind) - n - n) / 2;
-    let to = 16 + n;
-    let p = to + n;
-    let q = p + m;
-    Record {
-        kind,
-        source: address(s, 16, n),
-        destination: address(s, to, n),
-        source_port: port(s, p, m),
-        destination_port: port(s, q, m),
-    }
+    addresses_of(kind, &s[16..])
 }
 
 // "L must be A, or at least A + 3."

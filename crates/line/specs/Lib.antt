@@ -1,4 +1,3 @@
 pub mod Families
 pub mod AddressLaws
-pub mod Copies
 pub mod Choices

@@ -7,7 +7,7 @@ use lib.ListN.{length, getD, drop}
 use Rattle.tlv.specs.Tlv.{Tlv, Area, WellFormed}
 use Rattle.tlv.specs.Laws.{area-one}
 use Rattle.lookup.specs.Lookup.{found, without, illFormed, lookupIn, LooksUp}
-use Rattle.lookup.specs.Heads.{sizeAt, head-type, head-size, head-room, head-rest, none-left, some-left}
+use Rattle.tlv.specs.Heads.{sizeAt, head-type, head-size, head-room, head-rest, none-left, some-left}
 use Rattle.lookup.specs.Steps.{past, past-start, past-past, lookup-none, lookup-out, lookup-found, lookup-past}
 use Rattle.lookup.specs.declared.Answer.the-variants.{Absent, GaveUp}
 use Rattle.lookup.specs.declared.Examined.{Examined}

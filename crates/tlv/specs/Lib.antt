@@ -5,3 +5,5 @@ pub mod Rules
 pub mod Region
 pub mod Turn
 pub mod Whole
+pub mod Test
+pub mod Heads

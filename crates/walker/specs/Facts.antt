@@ -8,8 +8,9 @@ use borrow.Author.Tests.{leb-true, le-leb, lt-leb, lt-ltb, le-ltb}
 use lib.Dec.{ltb, leb}
 use lib.ListN.{length, getD, drop}
 use Rattle.exact.specs.Pick.{pick}
-use Rattle.walker.specs.Test.{wellFormed}
-use Rattle.walker.specs.Step.{sizeAt, headAt, stepAt, startOf, lengthOf}
+use Rattle.tlv.specs.Test.{wellFormed}
+use Rattle.tlv.specs.Heads.{sizeAt}
+use Rattle.walker.specs.Step.{headAt, stepAt, startOf, lengthOf}
 use Rattle.walker.specs.declared.Shown.{Shown}
 use Rattle.walker.specs.declared.Shown.the-variants.{Tlv, End, Refused}
 

@@ -6,8 +6,8 @@ use Prim.Native.Nat.{ℕ, _+_, _≤_, _<_}
 use native.Mathlib.Omega.{arith}
 use lib.ListN.{length, drop, length-drop}
 use Rattle.tlv.specs.Tlv.{Tlv, Area, WellFormed}
-use Rattle.lookup.specs.Heads.{head-type, head-size, head-room, head-value, head-rest}
-use Rattle.walker.specs.Test.{well-formed-tested, ill-formed-tested}
+use Rattle.tlv.specs.Test.{well-formed-tested, ill-formed-tested}
+use Rattle.tlv.specs.Heads.{head-type, head-size, head-room, head-value, head-rest}
 use Rattle.walker.specs.Step.{headAt, stepAt, numberOf, valueOf, placeAfter}
 use Rattle.walker.specs.Walk.{Shows}
 use Rattle.walker.specs.Facts.{head-end, head-shown, step-beyond}

@@ -1,4 +1,3 @@
-pub mod Test
 pub mod Step
 pub mod Walk
 pub mod Facts

@@ -1,16 +1,13 @@
 -- A step of a walker over a TLV area: document 01, "Looking into TLVs".
 use mathlib.Core.List.{List}
-use Prim.Native.Nat.{ℕ, _+_, _*_}
+use Prim.Native.Nat.{ℕ, _+_}
 use lib.Dec.{ltb, leb}
 use lib.ListN.{length, getD, take, drop}
 use Rattle.exact.specs.Pick.{pick}
-use Rattle.walker.specs.Test.{wellFormed}
+use Rattle.tlv.specs.Test.{wellFormed}
+use Rattle.tlv.specs.Heads.{sizeAt}
 use Rattle.walker.specs.declared.Shown.{Shown}
 use Rattle.walker.specs.declared.Shown.the-variants.{Tlv, End, Refused}
-
--- the length that the TLV at a place says: "two length bytes (high first)"
-abbrev pub sizeAt : List ℕ → ℕ → ℕ
-sizeAt s at = 256 * getD s (at + 1) 0 + getD s (at + 2) 0
 
 -- "the type and the value", or "the end": 12, if the TLV does not end in the area or "the place lies beyond the area"
 abbrev pub headAt : List ℕ → ℕ → Shown

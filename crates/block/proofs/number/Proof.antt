@@ -1,10 +1,8 @@
 -- The bytes at the place are the first two behind it.
-use Prim.Native.Nat.{ℕ, _+_, _*_}
-use mathlib.Core.Path.{_≡_, sym, ap, ap₂, _∙_}
-use lib.ListN.{getD}
+use Prim.Native.Nat.{_+_}
 use native.Mathlib.Omega.{arith}
-use lib.Seq.{getD-drop}
 use borrow.Author.Needs.{needs}
+use Rattle.block.specs.Parts.{number-at}
 use Rattle.block.proofs.number.Statement.{statement}
 use Rattle.block.proofs.number.Tie as tie
 
@@ -34,11 +32,7 @@ add-result c =
     omega (arith, c .shared-slice-known2 .given at, c .shared-slice-known2 .given (at + 1))
 
 returns : tie.Need-returns
-returns c =
-    let s = c .before .before .args .s .now in
-    let at = c .before .before .args .at in
-    let here : at + 0 ≡ at = omega arith in
-    sym (ap₂ (λ (h l : ℕ). h * 256 + l) (getD-drop at s 0 0 ∙ ap (λ (i : ℕ). getD s i 0) here) (getD-drop at s 1 0))
+returns c = let args = c .before .before .args in number-at (args .s .now) (args .at)
 
 pub number-spec : {M : Type 1} → statement M
 number-spec =

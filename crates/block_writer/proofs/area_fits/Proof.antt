@@ -1,12 +1,11 @@
 -- Each arm answers as `areaTest` does at its kind; what `well_formed` ensures is the test of a well-formed area.
 use Prim.Native.Nat.{ℕ}
-use mathlib.Core.Path.{_≡_}
+use mathlib.Core.Path.{_≡_, sym}
 use mathlib.Core.Bool.{Bool, true}
 use mathlib.Core.List.{List}
 use borrow.Author.Needs.{needs}
 use Rattle.tlv.specs.Tlv.{WellFormed}
-use Rattle.block_writer.specs.Areas.{wellFormedTest}
-use Rattle.block_writer.specs.AreaLaws.{well-formed-test, same-test}
+use Rattle.tlv.specs.Test.{wellFormed, tested-is}
 use Rattle.block_writer.proofs.area_fits.Statement.{statement}
 use Rattle.block_writer.proofs.area_fits.Tie as tie
 
@@ -34,8 +33,8 @@ enum-told-5 c = search needs
 well-formed-requires-3 : tie.Need-well-formed-requires-3
 well-formed-requires-3 c κs = search needs
 
-tested : (b : Bool) (area : List ℕ) → (b ≡ true → WellFormed area) × (WellFormed area → b ≡ true) → b ≡ wellFormedTest area
-tested b area e = same-test b (wellFormedTest area) (e .0) (e .1) (well-formed-test area)
+tested : (b : Bool) (area : List ℕ) → (b ≡ true → WellFormed area) × (WellFormed area → b ≡ true) → b ≡ wellFormed area
+tested b area e = sym (tested-is area b (e .0) (e .1))
 
 returns : tie.Need-returns
 returns c = rw (c .enum-told .given .1)

@@ -1,26 +1,20 @@
 -- The loop copies the first i bytes over zeros; the measure is what is left of n.
-use Prim.Native.Nat.{ℕ, _+_, _≤_, _-_}
-use mathlib.Core.Path.{_≡_, refl, sym, ap, ap₂, _∙_}
-use mathlib.Core.List.{List, _++_}
+use Prim.Native.Nat.{ℕ, _-_, _≤_}
+use mathlib.Core.Path.{_≡_, ap, _∙_}
 use native.Mathlib.Omega.{arith}
-use native.Mathlib.Numerals.{add-one}
-use lib.ListN.{length, take, drop, replicate, length-set, length-replicate}
-use lib.Seq.{paste, paste-zero, paste-suc, length-paste, length-take-le}
-use Rattle.record.specs.Records.{held}
-use Rattle.line.specs.Copies.{zeros, pasted, paste-next}
+use lib.Seq.{paste, paste-zero}
+use Rattle.record.specs.HeldLaws.{blank, held-pasted, pasted-next}
 use Rattle.line.proofs.held.Statement.{statement}
 use Rattle.line.proofs.held.Tie as tie
-use Rattle.line.proofs.held.Reads as reads
-use Rattle.line.proofs.held.Lts as lts
 
 abbrev Inv-loop : tie.InvT-loop
-Inv-loop n address bytes₀ i₀ bytes i = (i ≤ n) × (bytes ≡ paste (zeros 108) 0 address i)
+Inv-loop n address bytes₀ i₀ bytes i = (i ≤ n) × (bytes ≡ paste blank 0 address i)
 
 abbrev μ-loop : tie.MeasureT-loop
 μ-loop n address bytes₀ i₀ bytes i = n - i
 
 loop-holds : tie.Need-loop-holds Inv-loop μ-loop
-loop-holds c = (omega arith, paste-zero (zeros 108) 0 (c .args .t1))
+loop-holds c = (omega arith, paste-zero blank 0 (c .args .t1))
 
 array-read-bytes : tie.Need-array-read-bytes Inv-loop μ-loop
 array-read-bytes c = omega arith
@@ -37,13 +31,13 @@ loop-less c = omega arith
 loop-again : tie.Need-loop-again Inv-loop μ-loop
 loop-again c =
     let same = c .before .loop .inv .1 in
-    (omega arith, rw same (paste-next (c .before .before .args .t1) (c .before .loop .i) (omega arith) (omega arith)))
+    (omega arith, pasted-next (c .before .before .args .t1) (c .before .loop .i) _ same (omega arith) (omega arith))
 
 returns : tie.Need-returns Inv-loop μ-loop
 returns c =
     let here : c .before .loop .i ≡ c .before .before .args .n = omega arith in
-    c .before .loop .inv .1 ∙ ap (λ (k : ℕ). paste (zeros 108) 0 (c .before .before .args .t1) k) here
-    ∙ pasted (c .before .before .args .t1) (c .before .before .args .n) (omega arith)
+    c .before .loop .inv .1 ∙ ap (λ (k : ℕ). paste blank 0 (c .before .before .args .t1) k) here
+    ∙ held-pasted (c .before .before .args .t1) (c .before .before .args .n) (omega arith)
 
 pub held-spec : {M : Type 1} → statement M
 held-spec =

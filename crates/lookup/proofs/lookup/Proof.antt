@@ -4,7 +4,7 @@ use mathlib.Core.Path.{_≡_, sym, _∙_}
 use mathlib.Core.List.{List}
 use native.Mathlib.Omega.{arith}
 use lib.ListN.{length, getD}
-use Rattle.lookup.specs.Heads.{sizeAt}
+use Rattle.tlv.specs.Heads.{sizeAt}
 use Rattle.lookup.specs.Turn.{Left, left-start, left-ill, left-done, left-room, left-out, left-found, left-again}
 use Rattle.lookup.proofs.lookup.Statement.{statement}
 use Rattle.lookup.proofs.lookup.Tie as tie

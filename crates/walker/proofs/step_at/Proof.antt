@@ -6,7 +6,7 @@ use borrow.Author.Needs.{needs}
 use denote.Ref.{now}
 use lib.ListN.{drop}
 use Rattle.exact.specs.Parser.{tail-all}
-use Rattle.walker.specs.Test.{wellFormed, tested-is}
+use Rattle.tlv.specs.Test.{wellFormed, tested-is}
 use Rattle.walker.specs.Facts.{step-beyond}
 use Rattle.walker.proofs.step_at.Statement.{statement}
 use Rattle.walker.proofs.step_at.Tie as tie

@@ -1,13 +1,13 @@
--- For proofs. What the bytes of an area say at the place of a TLV: its type, its length, its value, and what remains behind it.
+-- What the bytes of an area say at the place of a TLV: its type, its length, its value, and what remains behind it.
 use mathlib.Core.Path.{_≡_, refl, sym, ap, _∙_}
 use mathlib.Core.List.{List, [], _∷_, _++_}
 use Prim.Native.Nat.{ℕ, _+_, _*_, _≤_, _<_}
 use native.Mathlib.Omega.{arith}
 use lib.ListN.{length, getD, take, drop, length-append, length-drop}
 use lib.Seq.{getD-drop, drop-drop, take-append-seam, drop-append-seam}
 use Rattle.tlv.specs.Tlv.{Tlv, written, Area}
 
--- the length that the head at a place says: two bytes, high first
+-- the length that the TLV at a place says: "two length bytes (high first)"
 abbrev pub sizeAt : List ℕ → ℕ → ℕ
 sizeAt s at = 256 * getD s (at + 1) 0 + getD s (at + 2) 0
 
