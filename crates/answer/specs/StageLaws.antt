@@ -1,7 +1,7 @@
 -- For proofs. What a stage answers: its field's own answer where that is no acceptance, and else the next stage's.
 use mathlib.Core.Path.{_≡_, refl, sym, ap, _∙_, subst}
 use mathlib.Core.List.{List}
-use Prim.Native.Nat.{ℕ, _+_, _-_, _≤_}
+use Prim.Native.Nat.{ℕ, _+_, _-_}
 use native.Mathlib.Omega.{arith}
 use lib.ListN.{length, take, drop}
 use Rattle.exact.specs.Claim.{Verdict, accepted, more, refused}

@@ -3,7 +3,7 @@ use mathlib.Core.Path.{_≡_}
 use mathlib.Core.List.{List, [], _∷_, _++_}
 use Prim.Native.Nat.{ℕ, _<_}
 use lib.Dec.{leb, ltb}
-use lib.ListN.{length, drop}
+use lib.ListN.{length}
 use Rattle.exact.specs.Network.{network}
 use Rattle.exact.specs.Pick.{pick}
 use Rattle.tlv.specs.Tlv.{WellFormed}

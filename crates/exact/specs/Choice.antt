@@ -1,14 +1,13 @@
 -- For proofs. The choice law: the first byte tells which field it is. And the field of no bytes, which gives a value.
-use mathlib.Core.Path.{_≡_, refl, sym, ap, ap₂, _∙_, subst}
+use mathlib.Core.Path.{_≡_, refl, sym, _∙_, subst}
 use mathlib.Core.Bool.{Bool, true, false}
-use mathlib.Core.List.{List, [], _∷_, _++_, append-assoc, append-nil}
+use mathlib.Core.List.{List, [], _∷_, _++_}
 use mathlib.Core.Logic.{_⊎_, inl, inr, ⊎-elim}
 use Prim.Native.Nat.{ℕ}
 use native.Mathlib.Omega.{arith}
-use lib.ListN.{length}
 use Rattle.exact.specs.Pick.{pick}
 use Rattle.exact.specs.Claim.{Verdict, accepted, more, refused}
-use Rattle.exact.specs.Field.{Field, Begins, Alive, Opens, Only, Accepts, Wants, Refuses, Exact}
+use Rattle.exact.specs.Field.{Field, Begins, Opens, Exact}
 
 -- no bytes, and the value a
 abbrev pub pure : {A : Type 0} → A → Field A

@@ -2,13 +2,13 @@
 use mathlib.Core.Path.{_≡_, refl, sym, ap, _∙_, subst}
 use mathlib.Core.List.{List, [], _∷_, _++_}
 use mathlib.Core.Logic.{_↔_}
-use Prim.Native.Nat.{ℕ, suc, _+_, _≤_, _<_}
+use Prim.Native.Nat.{ℕ, _+_, _≤_, _<_}
 use native.Mathlib.Numerals.{add-one}
 use native.Mathlib.Omega.{arith}
 use lib.ListN.{length, drop, getD, drop-of-length-le}
 use lib.Seq.{drop-cons}
 use Rattle.exact.specs.Claim.{Verdict, accepted, more, refused}
-use Rattle.exact.specs.Field.{Field, Begins, Alive, Opens, Only, Accepts, Wants, Refuses, Exact, shift}
+use Rattle.exact.specs.Field.{Field, Begins, Alive, Opens, Exact, shift}
 
 -- one label for the whole of a language
 abbrev pub leaf : {A : Type 0} → ℕ → (List ℕ → A → Type 0) → Field A

@@ -2,16 +2,16 @@
 use mathlib.Core.Path.{_≡_, refl, sym, ap, ap₂, _∙_, subst}
 use mathlib.Core.Bool.{Bool, true, false}
 use mathlib.Core.List.{List, [], _∷_, _++_}
-use mathlib.Core.Logic.{_⊎_, inl, inr, ⊎-elim, _↔_}
+use mathlib.Core.Logic.{inl, inr}
 use mathlib.Core.Option.{Option, some, none}
 use Prim.Native.Nat.{ℕ, _+_, _*_, _/_, _%_, _<_}
 use native.Mathlib.Omega.{arith}
-use Rattle.exact.specs.Field.{Opens, SeqLang}
+use Rattle.exact.specs.Field.{Opens}
 use Rattle.exact.specs.Machine.{leaf}
 use Rattle.exact.specs.Pick.{pick}
 use Rattle.exact.specs.Network.{network}
 use Rattle.exact.specs.Parser.{Parser, _then_, recast}
-use Rattle.exact.specs.Byte.{OneByte, oneByte}
+use Rattle.exact.specs.Byte.{oneByte}
 
 pub record Number (good : ℕ → Bool) (f : List ℕ) (n : ℕ) : Type 0 where
   pub split : f ≡ network n

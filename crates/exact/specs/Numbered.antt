@@ -9,9 +9,8 @@ use lib.Dec.{eqb}
 use lib.Seq.{append-snoc}
 use borrow.Author.Tests.{eqb-true}
 use Rattle.exact.specs.Claim.{AllBytes}
-use Rattle.exact.specs.Field.{Field, Begins, Opens, Only, SeqLang, InSecond, seq}
+use Rattle.exact.specs.Field.{Field, Begins, Opens, seq}
 use Rattle.exact.specs.Machine.{leaf}
-use Rattle.exact.specs.Choice.{pure, alt, altAt}
 use Rattle.exact.specs.Pick.{pick}
 use Rattle.exact.specs.Parser.{Parser, Starts, just, _then_, either}
 use Rattle.exact.specs.Unique.{fronts, unique}

@@ -1,14 +1,14 @@
 -- For proofs. A parser: a field with a function whose every verdict on it is exact. Each leaf is one, and the laws make one of others.
-use mathlib.Core.Path.{_≡_, refl, sym, ap, _∙_, subst}
+use mathlib.Core.Path.{_≡_, refl, sym, _∙_, subst}
 use mathlib.Core.Bool.{Bool, true, false}
-use mathlib.Core.List.{List, [], _∷_, _++_, append-nil}
-use mathlib.Core.Logic.{_⊎_, inl, inr, ⊎-elim, _↔_}
-use Prim.Native.Nat.{ℕ, _+_, _-_, _≤_, _<_}
+use mathlib.Core.List.{List, [], _∷_, _++_}
+use mathlib.Core.Logic.{_⊎_, inl, ⊎-elim, _↔_}
+use Prim.Native.Nat.{ℕ, _+_, _-_, _≤_}
 use native.Mathlib.Omega.{arith}
 use lib.ListN.{length, take, drop, length-append, length-drop}
 use lib.Seq.{take-all, take-at}
 use Rattle.exact.specs.Claim.{Verdict, accepted, more, refused, AllBytes}
-use Rattle.exact.specs.Field.{Field, Begins, Alive, Opens, Only, Accepts, Refuses, Exact, SeqLang, seq, after, shift}
+use Rattle.exact.specs.Field.{Field, Begins, Opens, Exact, seq, after}
 use Rattle.exact.specs.Sequence.{begins-more, seq-exact, opens-first}
 use Rattle.exact.specs.Machine.{leaf, Move, go, Runs, run, runs-exact}
 use Rattle.exact.specs.Choice.{pure, pure-exact, alt, choose, alt-exact}

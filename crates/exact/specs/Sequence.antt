@@ -1,12 +1,12 @@
 -- For proofs. The sequence law: exact verdicts on F and, for each value a, on G a, give exact verdicts on "F, then G a".
 use mathlib.Core.Path.{_≡_, refl, sym, ap, _∙_, subst}
-use mathlib.Core.List.{List, [], _∷_, _++_, append-assoc, append-nil, append-cancel-left}
-use mathlib.Core.Logic.{_⊎_, inl, inr}
+use mathlib.Core.List.{List, [], _++_, append-assoc, append-nil, append-cancel-left}
+use mathlib.Core.Logic.{inl, inr}
 use Prim.Native.Nat.{ℕ, _+_}
 use lib.ListN.{length, drop, length-append}
 use lib.Seq.{drop-at}
 use Rattle.exact.specs.Claim.{Verdict, accepted, more, refused}
-use Rattle.exact.specs.Field.{Field, Begins, Alive, Opens, Only, Accepts, Wants, Refuses, Exact, shift, SeqLang, InSecond, seq, after}
+use Rattle.exact.specs.Field.{Field, Begins, Alive, Opens, Only, Accepts, Exact, shift, SeqLang, seq, after}
 
 module _ {A : Type 0} (F : Field A) where
   -- what begins with a whole field does so with more bytes behind

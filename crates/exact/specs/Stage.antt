@@ -1,6 +1,6 @@
 -- For proofs. What the stages of a reader rest on: a stage stands at the place `at` of the bytes s and reads the field that P judges, and then what
 -- its value chooses.
-use mathlib.Core.Path.{_≡_, refl, sym, ap, _∙_, subst}
+use mathlib.Core.Path.{_≡_, sym, ap, _∙_, subst}
 use mathlib.Core.List.{List}
 use Prim.Native.Nat.{ℕ, _+_, _≤_}
 use native.Mathlib.Omega.{arith}

@@ -3,13 +3,13 @@
 use mathlib.Core.Path.{_≡_, refl, sym, ap, ap₂, _∙_, subst}
 use mathlib.Core.List.{List, [], _∷_, _++_, append-assoc, append-nil}
 use mathlib.Core.Logic.{_⊎_, inl, inr, ⊎-elim, _↔_}
-use Prim.Native.Nat.{ℕ, suc, _+_, _≤_, _<_}
+use Prim.Native.Nat.{ℕ, suc, _+_}
 use native.Mathlib.Numerals.{add-one}
 use native.Mathlib.Omega.{arith}
 use lib.ListN.{length, take, drop, getD, length-append, take-append-drop}
 use lib.Seq.{take-at, append-snoc, length-take-le, take-suc, split-at}
-use Rattle.exact.specs.Claim.{Verdict, accepted, more, refused, AllBytes, Heads, Live, Dead, Claim}
-use Rattle.exact.specs.Field.{Field, Begins, Alive, Opens, Only, Accepts, Wants, Refuses, Exact}
+use Rattle.exact.specs.Claim.{Verdict, accepted, more, refused, AllBytes, Heads, Live, Claim}
+use Rattle.exact.specs.Field.{Field, Begins, Alive, Opens, Only, Accepts, Refuses, Exact}
 use Rattle.exact.specs.Parser.{Parser, bytes-back, same-exact}
 use Rattle.exact.specs.Unique.{fronts, begins-whole, begins-longer, begins-alive, alive-opens, refused-dead, unique-of}
 

@@ -18,13 +18,12 @@ use Rattle.exact.specs.Number.{any, number16}
 use Rattle.tlv.specs.Tlv.{WellFormed}
 use Rattle.tlv.specs.Room.{filled-fillable}
 use Rattle.tlv.specs.Region.{region}
-use Rattle.record.specs.declared.Transport.{Transport}
 use Rattle.record.specs.declared.Kind.{Kind}
 use Rattle.record.specs.declared.Kind.the-variants.{Local, Unspecified, Ip4, Ip6, Unix}
 use Rattle.record.specs.declared.Record.{Record}
 use Rattle.record.specs.Kinds.{family, addressLength, portLength, blockLength}
 use Rattle.record.specs.Records.{recordOf, bare, PortFits}
-use Rattle.header.specs.Block.{signature, LOCAL, PROXY, Framed, LocalBlock, UnspecifiedBlock, HasAddresses, portBytes, Addresses, AddressBlock, Block}
+use Rattle.header.specs.Block.{signature, LOCAL, PROXY, LocalBlock, HasAddresses, portBytes, Addresses, Block}
 use Rattle.header.specs.Header.{Header}
 use Rattle.header.specs.LineFields.{word}
 

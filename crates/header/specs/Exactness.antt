@@ -1,9 +1,9 @@
 -- Demand 3, whole, about the definitions: the verdict on a header's bytes is the one that the claim allows, and no other is.
-use mathlib.Core.Path.{_≡_, refl, sym, ap, _∙_, subst}
+use mathlib.Core.Path.{_≡_, refl, sym, ap, _∙_}
 use mathlib.Core.Bool.{Bool, true, false}
-use mathlib.Core.List.{List, [], _∷_, _++_, append-nil}
+use mathlib.Core.List.{List, [], _++_, append-nil}
 use mathlib.Core.Logic.{_⊎_, inl, inr, ⊎-elim, _↔_}
-use Prim.Native.Nat.{ℕ, _<_}
+use Prim.Native.Nat.{ℕ}
 use native.Mathlib.Omega.{arith}
 use lib.Dec.{eqb}
 use Rattle.exact.specs.Claim.{Verdict, accepted, more, refused, AllBytes, Heads, Live}
@@ -14,15 +14,14 @@ use Rattle.exact.specs.Parser.{Parser, Starts, just, _then_, either, recast, st
 use Rattle.exact.specs.Literal.{starts-text}
 use Rattle.exact.specs.Numbered.{Numbered, numbered-either}
 use Rattle.exact.specs.Theorem.{claim-holds, claim-only, claim-stays, whole-only, bytes-suffice}
-use Rattle.text.specs.Decimal.{Digit}
 use Rattle.text.specs.Ip4.{Address as Ip4Address}
 use Rattle.text.specs.Ip4Leaf.{ip4}
 use Rattle.ip6.specs.Parser.{ip6, space-ends}
 use Rattle.header.specs.Line.{Ip6Address, groupBytes, Line}
 use Rattle.header.specs.Header.{Header, Whole, number}
 use Rattle.header.specs.Demand.{Judges}
-use Rattle.header.specs.LineFields.{line, line-same, Lined, starts-word, proxyWord}
-use Rattle.header.specs.BlockFields.{block, block-same, Blocked, signatureField}
+use Rattle.header.specs.LineFields.{line, line-same, Lined}
+use Rattle.header.specs.BlockFields.{block, block-same}
 use Rattle.header.specs.Places.{AddressField, ip4-clear, ip6-clear, numbered-ended, numbered-line, numbered-block}
 
 -- ── the address fields ──

@@ -10,10 +10,9 @@ use lib.Seq.{append-snoc}
 use Rattle.exact.specs.Claim.{AllBytes}
 use Rattle.exact.specs.Ascii.{ascii}
 use Rattle.exact.specs.Ended.{Ended}
-use Rattle.exact.specs.Machine.{leaf}
 use Rattle.exact.specs.Parser.{Parser, Starts, just, _then_, either, starts-seq}
 use Rattle.exact.specs.Literal.{text, starts-text}
-use Rattle.text.specs.Decimal.{Digit, Decimal}
+use Rattle.text.specs.Decimal.{Decimal}
 use Rattle.text.specs.DecimalLeaf.{decimal}
 use Rattle.text.specs.Line.{FirstEnd}
 use Rattle.text.specs.LineLeaf.{lineEnd}

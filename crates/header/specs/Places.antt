@@ -1,18 +1,18 @@
 -- For proofs. The fields number their places as document 01's table does.
 use mathlib.Core.Path.{_≡_, refl, sym, ap, ap₂, _∙_, subst}
 use mathlib.Core.Bool.{Bool, true, false}
-use mathlib.Core.List.{List, [], _∷_, _++_, append-assoc, append-nil}
+use mathlib.Core.List.{List, [], _∷_, _++_, append-nil}
 use mathlib.Core.Logic.{_⊎_, inl, inr, ⊎-elim, _↔_}
 use mathlib.Core.Option.{Option}
-use Prim.Native.Nat.{ℕ, zero, suc, _+_, _-_, _*_, _/_, _%_, _≤_, _<_}
+use Prim.Native.Nat.{ℕ, _+_, _-_, _*_, _/_, _%_, _≤_, _<_}
 use native.Mathlib.Omega.{arith}
-use lib.Dec.{eqb, ltb}
+use lib.Dec.{eqb}
 use lib.ListN.{length, getD, length-append, List·getD-append}
 use borrow.Author.Tests.{ne-eqb, eq-eqb, le-ltb}
 use Rattle.exact.specs.Ascii.{ascii}
 use Rattle.exact.specs.Ended.{Ended}
 use Rattle.exact.specs.Pick.{pick}
-use Rattle.exact.specs.Field.{Field, InSecond, seq}
+use Rattle.exact.specs.Field.{Field, seq}
 use Rattle.exact.specs.Machine.{leaf}
 use Rattle.exact.specs.Parser.{Parser, just, _then_, either}
 use Rattle.exact.specs.Literal.{Literal}
@@ -162,10 +162,6 @@ numbered-block =
 ended-append : (u v : List ℕ) → partsEnded (u ++ v) ≡ partsEnded u + partsEnded v
 ended-append [] v = omega arith
 ended-append (c ∷ u) v = let h = ended-append u v in rw h (omega arith)
-
--- nothing ends in front of what ends nothing
-ended-front : (u v : List ℕ) → partsEnded (u ++ v) ≡ 0 → partsEnded u ≡ 0
-ended-front u v e = let h = ended-append u v in omega arith
 
 -- a text that has neither a space nor a CR, and the byte that ends it
 abbrev pub Clear : {A : Type 0} → (List ℕ → A → Type 0) → Type 0

@@ -1,6 +1,6 @@
 -- The examples W01 to W14 of document 01, as one table under one statement: each answer is the one that demand 3 allows.
-use mathlib.Core.Path.{_≡_, refl, sym, ap, subst}
-use mathlib.Core.List.{List, [], _∷_, _++_, map}
+use mathlib.Core.Path.{_≡_, refl, subst}
+use mathlib.Core.List.{List, [], _∷_, _++_}
 use Prim.Native.Nat.{ℕ}
 use Rattle.exact.specs.Ascii.{ascii}
 use Rattle.exact.specs.Claim.{Verdict, accepted, more, refused}

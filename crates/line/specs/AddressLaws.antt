@@ -1,18 +1,16 @@
 -- For proofs. The bytes of an address that the code gathers are those that its field says.
 use mathlib.Core.Path.{_≡_, refl, sym, ap, ap₂, _∙_, subst}
 use mathlib.Core.Bool.{Bool}
-use mathlib.Core.List.{List, [], _∷_, _++_}
+use mathlib.Core.List.{List, [], _∷_}
 use Prim.Native.Nat.{ℕ, _+_, _-_, _/_, _%_}
 use native.Mathlib.Omega.{arith}
 use lib.ListN.{length, getD, take, drop}
-use Rattle.exact.specs.Claim.{Verdict, accepted, more, refused}
+use Rattle.exact.specs.Claim.{Verdict, accepted}
 use Rattle.exact.specs.Field.{Exact, after}
 use Rattle.exact.specs.declared.Scan.{Scan}
 use Rattle.exact.specs.declared.Scan.the-variants.{Accepted, More, Refused}
 use Rattle.exact.specs.Parser.{tail-all}
 use Rattle.exact.specs.Told.{heard}
-use Rattle.text.specs.Ip4.{Address as Ip4Address}
-use Rattle.ip6.specs.Address.{Address as Ip6Text}
 use Rattle.ip6.specs.Bounds.{address-bounds}
 use Rattle.record.specs.declared.Record.{Record}
 use Rattle.record.specs.Records.{held, recordOf}

@@ -2,10 +2,8 @@
 use exact::Scan;
 ghost use mathlib.Core.Path.{_≡_};
 ghost use Prim.Native.Nat.{_/_, _%_};
-ghost use lib.ListN.{take};
 ghost use Rattle.header.specs.Line.{groupBytes};
 ghost use Rattle.header.specs.Exactness.{address4 as fieldOf4, address6 as fieldOf6};
-ghost use Rattle.record.specs.Records.{held as heldOf};
 ghost use Rattle.line.specs.Families.{toldFound, width, field};
 
 // What a scan of an address finds, and the address, at the front of its array.

@@ -4,7 +4,7 @@ use mathlib.Core.Bool.{Bool, true, false}
 use mathlib.Core.List.{List, [], _++_}
 use Prim.Native.Nat.{ℕ}
 use lib.Dec.{leb}
-use lib.ListN.{length, drop}
+use lib.ListN.{length}
 use Rattle.exact.specs.Ascii.{ascii}
 use Rattle.exact.specs.Pick.{pick}
 use Rattle.record.specs.declared.Transport.the-variants.{Stream, Datagram}

@@ -1,6 +1,5 @@
 // Lookup: the first TLV of a type in a TLV area, of which at most as many TLVs are examined as a limit says.
 // No public function has a `requires`.
-ghost use mathlib.Core.Path.{_≡_};
 ghost use Rattle.lookup.specs.Lookup.{LooksUp};
 
 // What a lookup finds out.

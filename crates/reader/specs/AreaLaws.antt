@@ -1,5 +1,5 @@
 -- For proofs. The part of the bytes between the area's start and its end is the area.
-use mathlib.Core.Path.{_≡_, refl, sym, ap, ap₂, _∙_, subst}
+use mathlib.Core.Path.{_≡_, sym, ap, _∙_}
 use mathlib.Core.Bool.{Bool, true, false}
 use mathlib.Core.List.{List, []}
 use Prim.Native.Nat.{ℕ, _+_, _-_, _≤_, min}
@@ -7,14 +7,14 @@ use native.Mathlib.Omega.{arith}
 use lib.Dec.{eqb}
 use lib.ListN.{length, take, drop, getD, length-take, length-drop}
 use lib.Seq.{ext-getD, getD-take, getD-drop}
-use borrow.Author.Tests.{eq-eqb, ne-eqb, eqb-true}
+use borrow.Author.Tests.{eq-eqb, ne-eqb}
 use Rattle.exact.specs.Pick.{pick}
 use Rattle.record.specs.declared.Kind.{Kind}
 use Rattle.record.specs.declared.Kind.the-variants.{Local, Unspecified, Ip4, Ip6, Unix}
 use Rattle.answer.specs.declared.Verdict.{Verdict}
 use Rattle.answer.specs.declared.Verdict.the-variants.{Accepted, More, Refused}
 use Rattle.answer.specs.declared.Reading.{Reading}
-use Rattle.answer.specs.Answers.{areaOf, blockArea}
+use Rattle.answer.specs.Answers.{blockArea}
 use Rattle.reader.specs.Area.{areaBy, readArea, blockEnd, endBy, areaEnd, areaStart}
 
 end-within : (v : Verdict) (kind : Kind) (size : ℕ) → endBy v kind size ≤ size

@@ -1,8 +1,8 @@
 -- For proofs. The first byte tells the version.
-use mathlib.Core.Path.{_≡_, refl, sym, ap, _∙_, subst}
+use mathlib.Core.Path.{_≡_, refl, sym, ap, subst}
 use mathlib.Core.Bool.{Bool, true, false}
 use mathlib.Core.List.{List, [], _∷_}
-use Prim.Native.Nat.{ℕ, _<_}
+use Prim.Native.Nat.{ℕ}
 use native.Mathlib.Omega.{arith}
 use lib.ListN.{length, getD}
 use borrow.Author.Tests.{eq-eqb, ne-eqb}
@@ -13,7 +13,7 @@ use Rattle.header.specs.Demand.{Judges}
 use Rattle.header.specs.BlockFields.{block}
 use Rattle.header.specs.Exactness.{isP, lineField, verdict, judges}
 use Rattle.answer.specs.declared.Reading.{Reading}
-use Rattle.answer.specs.Answers.{Answers, toldReading}
+use Rattle.answer.specs.Answers.{Answers}
 use Rattle.answer.specs.StageLaws.{answers-as}
 use Rattle.reader.specs.Read.{Reads}
 

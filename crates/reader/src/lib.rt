@@ -7,7 +7,7 @@ use block::block;
 use line::line;
 use record::Kind;
 ghost use mathlib.Core.Path.{_≡_};
-ghost use Prim.Native.Nat.{_+_, _≤_, min};
+ghost use Prim.Native.Nat.{_+_, min};
 ghost use lib.ListN.{length};
 ghost use Rattle.reader.specs.Read.{Reads};
 ghost use Rattle.reader.specs.Area.{blockEnd, areaStart, areaEnd, readArea};

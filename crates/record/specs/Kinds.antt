@@ -1,7 +1,6 @@
 -- The numbers, lengths and words of the kinds (document 01, "The binary block" and "The program").
 use mathlib.Core.List.{List, _++_}
 use mathlib.Core.Option.{Option, some, none}
-use mathlib.Core.Bool.{Bool}
 use Prim.Native.Nat.{ℕ, _+_}
 use lib.Dec.{eqb}
 use Rattle.exact.specs.Pick.{pick}

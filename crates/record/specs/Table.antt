@@ -7,7 +7,7 @@ use lib.ListN.{length}
 use Rattle.exact.specs.Ascii.{ascii}
 use Rattle.record.specs.declared.Transport.the-variants.{Stream, Datagram}
 use Rattle.record.specs.declared.Kind.{Kind}
-use Rattle.record.specs.declared.Kind.the-variants.{Local, Unspecified, Ip4, Ip6, Unix}
+use Rattle.record.specs.declared.Kind.the-variants.{Unspecified, Ip4, Ip6, Unix}
 use Rattle.record.specs.Kinds.{family, blockLength, kindWord}
 
 -- "00; 11, 12; 21, 22; 31, 32", and the lengths "0, 12, 36, 216"

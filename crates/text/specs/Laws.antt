@@ -1,22 +1,11 @@
 -- For proofs. Which bytes decimal and IPv4 text has, and how many.
-use mathlib.Core.Path.{_≡_, subst}
-use mathlib.Core.List.{List, [], _∷_, _++_}
+use mathlib.Core.List.{List, [], _∷_}
 use Prim.Native.Nat.{ℕ, _+_, _*_, _-_, _^_, _≤_, _<_}
 use native.Mathlib.Nat.{pow-suc, pow-le-pow-right, mul-le-mul-right, lt-of-not-le}
 use native.Mathlib.Omega.{arith}
 use lib.ListN.{length, length-append}
-use Rattle.text.specs.Decimal.{Digit, Digits, Plain, valueOn, Decimal}
+use Rattle.text.specs.Decimal.{Digits, Plain, valueOn, Decimal}
 use Rattle.text.specs.Ip4.{Address}
-
-digits-apart : (f : List ℕ) → Digits f → (c : ℕ) → (Digit c → ⊥) → (x y : List ℕ) → f ≡ x ++ c ∷ y → ⊥
-digits-apart [] digits c apart [] y e = let z : _≡_ {A = ℕ} 0 1 = cc in omega arith
-digits-apart [] digits c apart (b ∷ x) y e = let z : _≡_ {A = ℕ} 0 1 = cc in omega arith
-digits-apart (d ∷ f) digits c apart [] y e = apart (subst Digit (cc) (digits .0))
-digits-apart (d ∷ f) digits c apart (b ∷ x) y e = digits-apart f (digits .1) c apart x y cc
-
--- decimal text has digits only: no space, no dot, no CR
-pub decimal-apart : (bound : ℕ) (f : List ℕ) (n : ℕ) → Decimal bound f n → (c : ℕ) → (Digit c → ⊥) → (x y : List ℕ) → f ≡ x ++ c ∷ y → ⊥
-decimal-apart bound f n l = digits-apart f (l .digits)
 
 value-least : (m : ℕ) (f : List ℕ) → m * 10 ^ length f ≤ valueOn m f
 value-least m [] = omega arith

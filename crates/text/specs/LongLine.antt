@@ -2,7 +2,7 @@
 -- bytes without an end, for any limit. Behind the 14 bytes "PROXY UNKNOWN " the limit is 93, and place 105 is 91.
 use mathlib.Core.Path.{_≡_, refl, sym, ap, _∙_}
 use mathlib.Core.Bool.{Bool, true, false}
-use mathlib.Core.List.{List, [], _∷_, _++_, append-assoc, append-nil}
+use mathlib.Core.List.{List, [], _∷_, _++_, append-assoc}
 use Prim.Native.Nat.{ℕ, _+_, _-_, _≤_, _<_}
 use native.Mathlib.Omega.{arith}
 use lib.Dec.{eqb}
@@ -88,12 +88,7 @@ module _ (k : ℕ) where
 
 -- ── the verdicts ──
 module _ (k limit : ℕ) (u : List ℕ) (bytes : AllBytes u) where
-  -- bytes without an end, behind which CR LF still fits
-  pub short-more : NoEnd u → length u + 2 ≤ limit → lineVerdict k limit u ≡ more
-  short-more none fits =
-      ap (λ (t : List ℕ). lineVerdict k limit t) (sym (append-nil u)) ∙ passes k u (line false limit) bytes none fits .goes []
-
-  -- the byte behind them
+  -- the byte behind bytes without an end
   next : (c : ℕ) (r : List ℕ) (m : Move Line ℕ) → NoEnd (u ++ c ∷ []) → length u + 2 ≡ limit → pass (eqb c 13) 2 c ≡ m
       → lineVerdict k limit (u ++ c ∷ r) ≡ shift (length u) (moved k m (run k stepLine r))
   next c r m none fits e =

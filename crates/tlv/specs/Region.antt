@@ -182,13 +182,3 @@ judge-exact k zero ok s =
       only = λ x y g b e l. (no-bytes g (l .0 .0), l .1);
     }
 judge-exact k (suc n) ok s = region-exact k (suc n) (some-bytes n ok) s
-
-abbrev pub regionOf : (k n : ℕ) → Fillable n → Parser ℕ
-regionOf k n ok =
-    record {
-      field = leaf k (Region n);
-      verdict = judge k n;
-      exact = judge-exact k n ok;
-      opens = region-opens k n ok;
-      bytes = λ f a l. area-bytes f (l .0 .1);
-    }

@@ -1,6 +1,6 @@
 -- The part that a case fills lies in the buffer.
 use native.Mathlib.Omega.{arith}
-use lib.ListN.{length-take, length-append, length-drop}
+use lib.ListN.{length-take}
 use borrow.Author.Needs.{needs}
 use Rattle.cases.proofs.judge_one.Statement.{statement}
 use Rattle.cases.proofs.judge_one.Tie as tie

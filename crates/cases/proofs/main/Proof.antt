@@ -1,6 +1,5 @@
 -- The buffer keeps its length, and each turn leaves fewer cases.
-use mathlib.Core.Path.{_≡_, sym, _∙_}
-use native.Mathlib.Omega.{arith}
+use mathlib.Core.Path.{_≡_}
 use borrow.Author.Needs.{needs}
 use lib.ListN.{length}
 use Rattle.cases.proofs.main.Statement.{statement}

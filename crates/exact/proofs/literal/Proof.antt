@@ -1,10 +1,10 @@
 -- `literal` answers as the literal leaf's machine: the loop's invariant is that the verdict is the one from the index i on.
 use Prim.Native.Nat.{ℕ, _+_, _≤_, _<_, _-_}
-use mathlib.Core.Path.{_≡_, sym, ap, _∙_}
+use mathlib.Core.Path.{_≡_, sym, _∙_}
 use mathlib.Core.List.{List}
 use native.Mathlib.Omega.{arith}
 use lib.ListN.{length, getD, drop, drop-of-length-le}
-use Rattle.exact.specs.Claim.{refused, accepted, more}
+use Rattle.exact.specs.Claim.{refused, accepted}
 use Rattle.exact.specs.Machine.{dead, from, from-start, from-end, from-go, from-done, from-dead}
 use Rattle.exact.specs.Literal.{literal, stepLiteral, lit-dead, lit-done, lit-go}
 use Rattle.exact.proofs.literal.Statement.{statement}

@@ -1,9 +1,9 @@
 -- The port is a decimal field, and behind it the line feed ends the line.
-use Prim.Native.Nat.{ℕ, _+_, _≤_}
+use Prim.Native.Nat.{ℕ, _+_}
 use mathlib.Core.Path.{_≡_, subst}
 use mathlib.Core.List.{List}
 use native.Mathlib.Omega.{arith}
-use lib.ListN.{length, drop, take}
+use lib.ListN.{drop, take}
 use Rattle.exact.specs.Field.{shift}
 use Rattle.exact.specs.Told.{told}
 use Rattle.exact.specs.Stage.{stage-inside, stage-member, stage-place}
@@ -12,7 +12,7 @@ use Rattle.exact.specs.declared.Scan.{Scan}
 use Rattle.record.specs.declared.Record.{Record}
 use Rattle.record.specs.Records.{recordOf}
 use Rattle.header.specs.Header.{Header}
-use Rattle.header.specs.LineFields.{lined, lineFeed, destinationPort, sourcePort, fromDestinationPort}
+use Rattle.header.specs.LineFields.{lined, lineFeed, destinationPort}
 use Rattle.answer.specs.Answers.{Answers}
 use Rattle.line.specs.Families.{kindOf, width}
 use Rattle.answer.specs.StageLaws.{said, as-more, as-refused, as-accepted}

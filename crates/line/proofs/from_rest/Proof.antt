@@ -1,9 +1,9 @@
 -- The end of the line is a field, and behind it the header is said.
-use Prim.Native.Nat.{ℕ, _+_, _≤_, _<_}
+use Prim.Native.Nat.{ℕ}
 use mathlib.Core.Path.{_≡_}
 use mathlib.Core.List.{List}
 use native.Mathlib.Omega.{arith}
-use lib.ListN.{length, drop}
+use lib.ListN.{drop}
 use Rattle.exact.specs.Told.{told}
 use Rattle.exact.specs.Stage.{stage-inside, stage-place}
 use Rattle.exact.specs.Parser.{Parser, just}

@@ -1,14 +1,7 @@
 -- The byte behind "UNKNOWN" tells how the line ends.
-use Prim.Native.Nat.{ℕ, _+_, _≤_, _<_}
-use mathlib.Core.Path.{_≡_, subst}
-use mathlib.Core.List.{List}
-use native.Mathlib.Omega.{arith}
-use lib.ListN.{length, drop}
-use Rattle.exact.specs.Told.{told}
-use Rattle.exact.specs.Stage.{stage-inside, stage-place}
-use Rattle.exact.specs.Parser.{Parser, just}
-use Rattle.exact.specs.declared.Scan.{Scan}
-use Rattle.header.specs.Header.{Header}
+use Prim.Native.Nat.{_+_}
+use mathlib.Core.Path.{subst}
+use lib.ListN.{drop}
 use Rattle.exact.specs.Field.{shift}
 use Rattle.record.specs.declared.Record.{Record}
 use Rattle.header.specs.LineFields.{lined, lineFeed}

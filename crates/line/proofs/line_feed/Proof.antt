@@ -1,10 +1,10 @@
 -- The LF is a literal field, and behind it the header is said.
-use Prim.Native.Nat.{ℕ, _+_, _≤_}
+use Prim.Native.Nat.{ℕ}
 use mathlib.Core.Path.{_≡_}
 use mathlib.Core.List.{List}
 use native.Mathlib.Omega.{arith}
-use lib.ListN.{length, drop}
-use Rattle.exact.specs.Claim.{accepted, more, refused}
+use lib.ListN.{drop}
+use Rattle.exact.specs.Claim.{more, refused}
 use Rattle.exact.specs.Told.{told}
 use Rattle.exact.specs.Stage.{stage-inside, stage-place}
 use Rattle.exact.specs.Parser.{Parser, just}

@@ -1,5 +1,5 @@
 -- The span of each case is the definition's.
-use mathlib.Core.Path.{_≡_, refl, sym, ap, _∙_}
+use mathlib.Core.Path.{refl, sym, ap, _∙_}
 use Prim.Native.Nat.{ℕ, min}
 use Rattle.reader.specs.AreaLaws.{span-none, old-version, no-block, span-some}
 use borrow.Author.Needs.{needs}

@@ -1,7 +1,5 @@
 -- Each case is told as its numbers.
 use mathlib.Core.Path.{sym, ap, _∙_}
-use mathlib.Core.List.{List}
-use Prim.Native.Nat.{ℕ}
 use denote.Ref.{now}
 use Rattle.answer.specs.declared.Written.{Written}
 use Rattle.capi.specs.Interface.{over}
