@@ -1,0 +1,24 @@
+//! Compiles the C parser, and links it and the proved library, which `rt staticlib capi` writes.
+use std::process::Command;
+
+fn main() {
+    let here = env!("CARGO_MANIFEST_DIR");
+    let out = std::env::var("OUT_DIR").expect("cargo sets it");
+    let flags = ["-std=c99", "-O2", "-Wall", "-Wextra", "-Wpedantic", "-Werror", "-c"];
+    done(Command::new("gcc").args(flags).arg(format!("{here}/parser.c")).arg("-o").arg(format!("{out}/parser.o")));
+    done(Command::new("ar").arg("crs").arg(format!("{out}/libparser.a")).arg(format!("{out}/parser.o")));
+    println!("cargo:rerun-if-changed=parser.c");
+    println!("cargo:rerun-if-changed=parser.h");
+    println!("cargo:rustc-link-search=native={out}");
+    println!("cargo:rustc-link-lib=static=parser");
+
+    let folder = format!("{here}/../target/staticlib");
+    println!("cargo:rerun-if-changed={folder}/libcapi.a");
+    println!("cargo:rustc-link-search=native={folder}");
+    println!("cargo:rustc-link-lib=static=capi");
+}
+
+fn done(command: &mut Command) {
+    let status = command.status().unwrap_or_else(|e| panic!("{command:?}: {e}"));
+    assert!(status.success(), "{command:?}: {status}");
+}

@@ -1,0 +1,62 @@
+//! The headers that are read, each with the ratio to the C parser that the library is to keep to.
+
+pub struct Input {
+    pub name: &'static str,
+    pub what: &'static str,
+    pub bytes: Vec<u8>,
+    /// The bytes are judged after this many of them and after each further one; all of that counts as one header.
+    pub first: usize,
+    pub target: Option<f64>,
+}
+
+impl Input {
+    /// The bytes so far of each reading.
+    pub fn readings(&self) -> Vec<&[u8]> {
+        (self.first..=self.bytes.len()).map(|n| &self.bytes[..n]).collect()
+    }
+}
+
+const SIGNATURE: &[u8] = b"\r\n\r\n\0\r\nQUIT\n";
+const LONGEST_TCP6: &[u8] = b"PROXY TCP6 2001:0db8:85a3:1234:5678:8a2e:0370:7334 2001:0db8:85a3:4321:8765:8a2e:0370:7335 56324 44321\r\n";
+
+pub fn inputs() -> Vec<Input> {
+    vec![
+        whole("v1-tcp4", "version 1, TCP4 (W02)", b"PROXY TCP4 192.168.0.1 192.168.0.11 56324 443\r\n".to_vec(), 0.6),
+        whole("v1-tcp6", "version 1, longest TCP6", LONGEST_TCP6.to_vec(), 1.0),
+        whole("v2-ip4", "version 2, IPv4", block(0x11, &[&[192, 168, 0, 1], &[192, 168, 0, 11], &PORTS]), 2.5),
+        whole("v2-ip6-tlvs", "version 2, IPv6, three TLVs", block(0x21, &[&address6(0x34), &address6(0x35), &PORTS, &tlvs()]), 2.5),
+        whole("v2-unix", "version 2, UNIX", block(0x31, &[&path("/run/screen/tester.sock"), &path("/run/screen/services.sock")]), 2.5),
+        Input { name: "scraps", what: "longest TCP6, byte by byte", bytes: LONGEST_TCP6.to_vec(), first: 1, target: None },
+    ]
+}
+
+fn whole(name: &'static str, what: &'static str, bytes: Vec<u8>, target: f64) -> Input {
+    let first = bytes.len();
+    Input { name, what, bytes, first, target: Some(target) }
+}
+
+/// 56324 and 443.
+const PORTS: [u8; 4] = [0xDC, 0x04, 0x01, 0xBB];
+
+/// A version 2 header under PROXY.
+fn block(family: u8, parts: &[&[u8]]) -> Vec<u8> {
+    let block = parts.concat();
+    let length = u16::try_from(block.len()).expect("at most 65535").to_be_bytes();
+    [SIGNATURE, &[0x21, family], &length, &block].concat()
+}
+
+fn address6(last: u8) -> [u8; 16] {
+    [0x20, 0x01, 0x0d, 0xb8, 0x85, 0xa3, 0x12, 0x34, 0x56, 0x78, 0x8a, 0x2e, 0x03, 0x70, 0x73, last]
+}
+
+fn path(name: &str) -> [u8; 108] {
+    let mut bytes = [0; 108];
+    bytes[..name.len()].copy_from_slice(name.as_bytes());
+    bytes
+}
+
+/// ALPN, AUTHORITY and UNIQUE_ID.
+fn tlvs() -> Vec<u8> {
+    let tlv = |kind: u8, value: &[u8]| [&[kind, 0, value.len() as u8], value].concat();
+    [tlv(0x01, b"h2"), tlv(0x02, b"screen.example.com"), tlv(0x05, b"0123456789abcdef")].concat()
+}
