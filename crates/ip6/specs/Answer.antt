@@ -1,13 +1,19 @@
 -- For proofs. What the answer of a part of the reading says.
 use mathlib.Core.Path.{_≡_}
 use mathlib.Core.List.{List}
-use Prim.Native.Nat.{ℕ, _+_}
+use Prim.Native.Nat.{ℕ, zero, suc, _+_}
 use Rattle.exact.specs.Claim.{Verdict, accepted, more, refused}
 use Rattle.exact.specs.Machine.{Move, go, done, dead, from}
 use Rattle.exact.specs.declared.Scan.{Scan}
 use Rattle.exact.specs.declared.Scan.the-variants.{Accepted, More, Refused}
 use Rattle.ip6.specs.Machine.{Seen, State, finish, step}
 use Rattle.exact.specs.Told.{heard}
+
+-- the answer that a number and a place say: 0 accepted, with the address's length; 1 more; from 2 on refused at the place
+abbrev pub scanOf : ℕ → ℕ → Scan
+scanOf zero place = Accepted 0 place
+scanOf (suc zero) place = More
+scanOf (suc (suc n)) place = Refused place
 
 -- the number beside an accepted address is 0
 abbrev pub Bare : Scan → Type 0

@@ -1,11 +1,13 @@
 -- For proofs. What the value of a hex digit says of the byte.
-use mathlib.Core.Path.{_≡_, refl}
+use mathlib.Core.Path.{_≡_, refl, ap, _∙_}
 use mathlib.Core.Logic.{_⊎_, inl, inr, ⊎-elim}
-use mathlib.Core.Bool.{Bool, true, false}
-use Prim.Native.Nat.{ℕ, _+_, _-_, _≤_, _<_}
+use mathlib.Core.Bool.{Bool, true, false, _&&_}
+use mathlib.Core.List.{List, [], _∷_}
+use Prim.Native.Nat.{ℕ, zero, suc, _+_, _-_, _≤_, _<_}
 use native.Mathlib.Omega.{arith}
-use lib.Dec.{leb}
-use borrow.Author.Tests.{leb-true, le-leb, lt-leb}
+use lib.Dec.{leb, eqb}
+use lib.ListN.{getD}
+use borrow.Author.Tests.{leb-true, le-leb, lt-leb, eqb-true, eqb-false}
 use Rattle.exact.specs.Pick.{pick, pick-by}
 use Rattle.ip6.specs.Address.{among, hexOf}
 
@@ -32,14 +34,10 @@ hex-most c =
     pick-by P (among "a" "f" c) (λ t. let w = among-high 97 102 c t in omega arith)
     (λ _. pick-by P (among "A" "F" c) (λ t. let w = among-high 65 70 c t in omega arith) (λ t. omega arith)))
 
--- a byte outside the characters from a to z
-abbrev pub Outside : ℕ → ℕ → ℕ → Type 0
-Outside a z c = (c < a) ⊎ (z < c)
-
 among-yes : (a z c : ℕ) → a ≤ c → c ≤ z → pick (leb a c) (leb c z) false ≡ true
 among-yes a z c h k = simp (le-leb a c h, le-leb c z k)
 
-among-no : (a z c : ℕ) → Outside a z c → pick (leb a c) (leb c z) false ≡ false
+among-no : (a z c : ℕ) → (c < a) ⊎ (z < c) → pick (leb a c) (leb c z) false ≡ false
 among-no a z c =
     ⊎-elim (λ h. simp (lt-leb a c h))
     (λ h. pick-by (λ (b : Bool). b ≡ false) (leb a c) (λ t. lt-leb c z h) (λ t. refl))
@@ -53,14 +51,43 @@ module _ (c : ℕ) where
   unfolding hexOf
   hex-lower h k = simp (among-no 48 57 c (inr (omega arith)), among-yes 97 102 c h k)
 
-  pub hex-upper : 65 ≤ c → c ≤ 70 → hexOf c ≡ c - 65 + 10
+  pub hex-before : c < 48 → hexOf c ≡ 16
   unfolding hexOf
-  hex-upper h k =
-      simp (among-no 48 57 c (inr (omega arith)), among-no 97 102 c (inl (omega arith)), among-yes 65 70 c h k)
+  hex-before h = simp (among-no 48 57 c (inl h), among-no 97 102 c (inl (omega arith)), among-no 65 70 c (inl (omega arith)))
 
-  pub hex-none : Outside 48 57 c → Outside 97 102 c → Outside 65 70 c → hexOf c ≡ 16
+  pub hex-behind : 102 < c → hexOf c ≡ 16
   unfolding hexOf
-  hex-none x y z = simp (among-no 48 57 c x, among-no 97 102 c y, among-no 65 70 c z)
+  hex-behind h = simp (among-no 48 57 c (inr (omega arith)), among-no 97 102 c (inr h), among-no 65 70 c (inr (omega arith)))
+
+-- ── the table of `hex_value` ──
+-- the values of the bytes from "0" to "f"
+abbrev pub hexValues : List ℕ
+hexValues =
+    0 ∷ 1 ∷ 2 ∷ 3 ∷ 4 ∷ 5 ∷ 6 ∷ 7 ∷ 8 ∷ 9 ∷ 16 ∷ 16 ∷ 16 ∷ 16 ∷ 16 ∷ 16 ∷ 16 ∷ 10 ∷ 11 ∷ 12 ∷ 13 ∷ 14 ∷ 15 ∷ 16 ∷ 16 ∷ 16 ∷ 16 ∷ 16 ∷ 16 ∷ 16 ∷ 16 ∷ 16 ∷ 16 ∷ 16 ∷ 16 ∷ 16 ∷ 16 ∷ 16 ∷ 16 ∷ 16 ∷ 16 ∷ 16 ∷ 16 ∷ 16 ∷ 16 ∷ 16 ∷ 16 ∷ 16 ∷ 16 ∷ 10 ∷ 11 ∷ 12 ∷ 13 ∷ 14 ∷ 15 ∷ []
+
+-- what a test says of every number below n
+abbrev below : ℕ → (ℕ → Bool) → Bool
+below zero test = true
+below (suc n) test = test n && below n test
+
+both : (a b : Bool) → a && b ≡ true → (a ≡ true) × (b ≡ true)
+both true true e = (refl, refl)
+both true false e = let z : _≡_ {A = ℕ} 0 1 = cc in absurd (omega arith)
+both false b e = let z : _≡_ {A = ℕ} 0 1 = cc in absurd (omega arith)
+
+below-each : (n : ℕ) (test : ℕ → Bool) → below n test ≡ true → (i : ℕ) → i < n → test i ≡ true
+below-each zero test all i h = absurd (omega arith)
+below-each (suc n) test all i h =
+    let parts = both (test n) (below n test) all in
+    by (eqb i n) refl (parts .0) (λ less. below-each n test (parts .1) i less)
+  where
+    by : (b : Bool) → eqb i n ≡ b → test n ≡ true → (i < n → test i ≡ true) → test i ≡ true
+    by true e here before = ap test (eqb-true i n e) ∙ here
+    by false e here before = before (let d = eqb-false i n e in omega arith)
+
+pub hex-table : (i : ℕ) → i < 55 → getD hexValues i 0 ≡ hexOf (48 + i)
+unfolding hexOf
+hex-table i h = eqb-true _ _ (below-each 55 (λ i. eqb (getD hexValues i 0) (hexOf (48 + i))) refl i h)
 
 pub hex-colon : hexOf 58 ≡ 16
 unfolding hexOf

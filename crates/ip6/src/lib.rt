@@ -11,27 +11,20 @@ ghost use Rattle.ip6.specs.Address.{hexOf};
 ghost use Rattle.ip6.specs.Machine.{start, digits, behind, step};
 ghost use Rattle.ip6.specs.Told.{toldAddress, Unused};
 ghost use Rattle.ip6.specs.Partial.{Sized, sofar, seenOf, spread};
-ghost use Rattle.ip6.specs.Answer.{From, Closed};
+ghost use Rattle.ip6.specs.Answer.{scanOf, From, Closed};
 
-// The value of a hex digit, in either case; 16 for any other byte.
+// The value of a hex digit, in either case; 16 for any other byte. The bytes from "0" to "f" are looked up: between digits and letters a
+// branch would be guessed wrong half the time.
 fn hex_value(c: u8) -> u8
     ensures { λ r. ⌜ r ≡ hexOf c ⌝ }
 {
+    let values =
+        b"\x00\x01\x02\x03\x04\x05\x06\x07\x08\x09\x10\x10\x10\x10\x10\x10\x10\x0A\x0B\x0C\x0D\x0E\x0F\x10\x10\x10\x10\x10\x10\x10\x10\x10\x10\x10\x10\x10\x10\x10\x10\x10\x10\x10\x10\x10\x10\x10\x10\x10\x10\x0A\x0B\x0C\x0D\x0E\x0F";
     if c < b'0' {
-        16
-    } else if c <= b'9' {
-        c - b'0'
-    } else if c < b'A' {
-        16
-    } else if c <= b'F' {
-        c - b'A' + 10
-    } else if c < b'a' {
-        16
-    } else if c <= b'f' {
-        c - b'a' + 10
-    } else {
-        16
+        return 16;
     }
+    let i = (c - b'0') as usize;
+    if i < values.len() { values[i] } else { 16 }
 }
 
 // What a scan of an address finds. The groups are those of an accepted address, and 0 where none is accepted.
@@ -55,27 +48,47 @@ fn spread_out(groups: &mut [u16; 8], count: usize, gap: usize)
     }
 }
 
+// What the functions below answer: one of these numbers, and in place the length of an accepted address or the place of the byte that
+// rules it out. A `Scan` would come back through memory, at each of their calls.
+const ACCEPTED: u8 = 0;
+
+const MORE: u8 = 1;
+
+const REFUSED: u8 = 2;
+
 // The address ends at place i.
-fn finished(groups: &mut [u16; 8], count: usize, gap: usize, i: usize) -> Scan
+fn finished(groups: &mut [u16; 8], count: usize, gap: usize, i: usize, place: &mut usize) -> u8
     requires { ⌜ Sized (sofar (now groups) count gap) × (i + 1 < 2 ^ 64) ⌝ }
-    ensures { λ r. ⌜ Closed i (seenOf (sofar (now (groups .entry)) count gap)) r (now (groups .exit)) ⌝ }
+    ensures { λ r. ⌜ Closed i (seenOf (sofar (now (groups .entry)) count gap)) (scanOf r (now (place .exit))) (now (groups .exit)) ⌝ }
 {
     if gap == 0 {
         if count == 8 {
-            Scan::Accepted(0, i + 1)
+            *place = i + 1;
+            ACCEPTED
         } else {
-            Scan::Refused(i)
+            *place = i;
+            REFUSED
         }
     } else {
         spread_out(groups, count, gap);
-        Scan::Accepted(0, i + 1)
+        *place = i + 1;
+        ACCEPTED
     }
 }
 
 // A group begins at place i.
-fn group(s: &[u8], i: usize, end: u8, groups: &mut [u16; 8], count: usize, gap: usize) -> Scan
+fn group(
+    s: &[u8],
+    i: usize,
+    end: u8,
+    groups: &mut [u16; 8],
+    count: usize,
+    gap: usize,
+    place: &mut usize,
+) -> u8
     requires { ⌜ Sized (sofar (now groups) count gap) × (count < 8) ⌝ }
-    ensures { λ r. ⌜ From end (now (s .entry)) i (digits (seenOf (sofar (now (groups .entry)) count gap)) 0 0) r (now (groups .exit)) ⌝ }
+    ensures { λ r. ⌜ From end (now (s .entry)) i (digits (seenOf (sofar (now (groups .entry)) count gap)) 0 0)
+        (scanOf r (now (place .exit))) (now (groups .exit)) ⌝ }
 {
     let mut v: u16 = 0;
     let mut n: usize = 0;
@@ -84,78 +97,94 @@ fn group(s: &[u8], i: usize, end: u8, groups: &mut [u16; 8], count: usize, gap: 
         let d = hex_value(s[at]);
         if d == 16 {
             if n == 0 {
-                return Scan::Refused(at);
+                *place = at;
+                return REFUSED;
             }
             groups[count] = v;
-            return colon(s, at, end, groups, count + 1, gap);
+            return colon(s, at, end, groups, count + 1, gap, place);
         }
         if n == 4 {
-            return Scan::Refused(at);
+            *place = at;
+            return REFUSED;
         }
         v = v * 16 + d as u16;
         n += 1;
         at += 1;
     }
-    Scan::More
+    MORE
 }
 
 // A colon part, or the end, stands at place i.
-fn colon(s: &[u8], i: usize, end: u8, groups: &mut [u16; 8], count: usize, gap: usize) -> Scan
+fn colon(
+    s: &[u8],
+    i: usize,
+    end: u8,
+    groups: &mut [u16; 8],
+    count: usize,
+    gap: usize,
+    place: &mut usize,
+) -> u8
     requires { ⌜ Sized (sofar (now groups) count gap) ⌝ }
-    ensures { λ r. ⌜ From end (now (s .entry)) i (behind (seenOf (sofar (now (groups .entry)) count gap))) r (now (groups .exit)) ⌝ }
+    ensures { λ r. ⌜ From end (now (s .entry)) i (behind (seenOf (sofar (now (groups .entry)) count gap)))
+        (scanOf r (now (place .exit))) (now (groups .exit)) ⌝ }
 {
     if s.len() <= i {
-        return Scan::More;
+        return MORE;
     }
     let c = s[i];
     if c != b':' {
         if c == end {
-            return finished(groups, count, gap, i);
+            return finished(groups, count, gap, i, place);
         }
-        return Scan::Refused(i);
+        *place = i;
+        return REFUSED;
     }
     if 8 <= count {
-        return Scan::Refused(i);
+        *place = i;
+        return REFUSED;
     }
     let next = i + 1;
     if s.len() <= next {
-        return Scan::More;
+        return MORE;
     }
     if s[next] != b':' {
         if count == 0 {
-            return Scan::Refused(next);
+            *place = next;
+            return REFUSED;
         }
-        return group(s, next, end, groups, count, gap);
+        return group(s, next, end, groups, count, gap, place);
     }
     if 0 < gap {
-        return Scan::Refused(next);
+        *place = next;
+        return REFUSED;
     }
     let after = next + 1;
     if s.len() <= after {
-        return Scan::More;
+        return MORE;
     }
     let counted = count + 1;
     if s[after] == end {
-        return finished(groups, counted, counted, after);
+        return finished(groups, counted, counted, after, place);
     }
     if 7 <= count {
-        return Scan::Refused(after);
+        *place = after;
+        return REFUSED;
     }
-    group(s, after, end, groups, counted, counted)
+    group(s, after, end, groups, counted, counted, place)
 }
 
 // The answer from the first byte on.
-fn begun(s: &[u8], end: u8, groups: &mut [u16; 8]) -> Scan
+fn begun(s: &[u8], end: u8, groups: &mut [u16; 8], place: &mut usize) -> u8
     requires { ⌜ Sized (sofar (now groups) 0 0) ⌝ }
-    ensures { λ r. ⌜ From end (now (s .entry)) 0 start r (now (groups .exit)) ⌝ }
+    ensures { λ r. ⌜ From end (now (s .entry)) 0 start (scanOf r (now (place .exit))) (now (groups .exit)) ⌝ }
 {
     if s.len() == 0 {
-        return Scan::More;
+        return MORE;
     }
     if s[0] == b':' {
-        colon(s, 0, end, groups, 0, 0)
+        colon(s, 0, end, groups, 0, 0, place)
     } else {
-        group(s, 0, end, groups, 0, 0)
+        group(s, 0, end, groups, 0, 0, place)
     }
 }
 
@@ -165,11 +194,17 @@ pub fn address(s: &[u8], end: u8) -> Scanned
     ensures unused { λ r. ⌜ Unused (r .scan) (r .groups) ⌝ }
 {
     let mut groups = [0u16; 8];
-    let scan = begun(s, end, &mut groups);
-    if let Scan::Accepted(_, _) = scan {
-        Scanned { scan, groups }
-    } else {
-        let groups = [0; 8];
-        Scanned { scan, groups }
+    let mut place: usize = 0;
+    let answer = begun(s, end, &mut groups, &mut place);
+    if answer == ACCEPTED {
+        let scan = Scan::Accepted(0, place);
+        return Scanned { scan, groups };
     }
+    let groups = [0; 8];
+    if answer == MORE {
+        let scan = Scan::More;
+        return Scanned { scan, groups };
+    }
+    let scan = Scan::Refused(place);
+    Scanned { scan, groups }
 }

@@ -28,23 +28,23 @@ use Rattle.ip6.proofs.hex_value.Reads as hex-value-reads
 use Rattle.ip6.proofs.+colon+group.{statement}
 use Rattle.ip6.proofs.+colon+group.Tie.{close}
 
-abbrev μ-colon : Measures 2 colon-kinds.ps ℕ
+abbrev μ-colon : Measures 3 colon-kinds.ps ℕ
 μ-colon κs a = length (a .0 .now) - a .1 .0
 
-abbrev μ-group : Measures 2 group-kinds.ps ℕ
+abbrev μ-group : Measures 3 group-kinds.ps ℕ
 μ-group κs a = length (a .0 .now) - a .1 .0
 
-abbrev colon-at : ℕ → In 2 colon-kinds.ps
-colon-at t = and 2 colon-kinds.ps (is 2 colon-kinds.ps μ-colon t) colon-reads.Pre
+abbrev colon-at : ℕ → In 3 colon-kinds.ps
+colon-at t = and 3 colon-kinds.ps (is 3 colon-kinds.ps μ-colon t) colon-reads.Pre
 
-abbrev colon-below : ℕ → In 2 colon-kinds.ps
-colon-below t = and 2 colon-kinds.ps (falls 2 colon-kinds.ps _<_ μ-colon t) colon-reads.Pre
+abbrev colon-below : ℕ → In 3 colon-kinds.ps
+colon-below t = and 3 colon-kinds.ps (falls 3 colon-kinds.ps _<_ μ-colon t) colon-reads.Pre
 
-abbrev group-at : ℕ → In 2 group-kinds.ps
-group-at t = and 2 group-kinds.ps (is 2 group-kinds.ps μ-group t) group-reads.Pre
+abbrev group-at : ℕ → In 3 group-kinds.ps
+group-at t = and 3 group-kinds.ps (is 3 group-kinds.ps μ-group t) group-reads.Pre
 
-abbrev group-below : ℕ → In 2 group-kinds.ps
-group-below t = and 2 group-kinds.ps (falls 2 group-kinds.ps _<_ μ-group t) group-reads.Pre
+abbrev group-below : ℕ → In 3 group-kinds.ps
+group-below t = and 3 group-kinds.ps (falls 3 group-kinds.ps _<_ μ-group t) group-reads.Pre
 
 abbrev colon-calls : ℕ → colon-lts.Claims
 colon-calls t = (finished-reads.Asked, finished-reads.Learnt, group-below t, group-reads.Post)
@@ -54,13 +54,13 @@ group-calls t = (hex-value-reads.Asked, hex-value-reads.Learnt, colon-below t, c
 
 -- what is answered from here answers from where the group begins
 abbrev group-Inv-loop : group-lts.InvT-loop
-group-Inv-loop s i end groups₀ count gaps v₀ n₀ at₀ groups v n at =
+group-Inv-loop s i end groups₀ count gaps place₀ v₀ n₀ at₀ groups place v n at =
     (at ≡ i + n) × (n ≤ 4) × (v < 16 ^ n) × Sized (sofar groups count gaps)
     × ((r : Scan) (g : List ℕ) → From end s at (digits (seenOf (sofar groups count gaps)) n v) r g
     → From end s i (digits (seenOf (sofar groups₀ count gaps)) 0 0) r g)
 
 abbrev group-μ-loop : group-lts.MeasureT-loop
-group-μ-loop s i end groups₀ count gaps v₀ n₀ at₀ groups v n at = length s - at
+group-μ-loop s i end groups₀ count gaps place₀ v₀ n₀ at₀ groups place v n at = length s - at
 
 module _ (t : ℕ) where
   -- ── colon: behind a group ──
@@ -71,12 +71,12 @@ module _ (t : ℕ) where
   colon-shared-slice-read-c c = c .before .if1 .left
 
   colon-finished-requires : colon-lts.Need-finished-requires (colon-calls t) (colon-at t) colon-reads.Post
-  colon-finished-requires c κs = (c .before .before .before .before .before .before .pre .1, omega arith)
+  colon-finished-requires c κs = (c .before .before .before .before .before .before .before .pre .1, omega arith)
 
   colon-returns-2 : colon-lts.Need-returns-2 (colon-calls t) (colon-at t) colon-reads.Post
   colon-returns-2 c =
-      behind-ends (c .before .before .before .before .before .if1 .left) (c .before .before .before .if2 .taken) (c .before .before .if3 .taken)
-      (c .finished .ensures)
+      behind-ends (c .before .before .before .before .before .before .if1 .left) (c .before .before .before .before .if2 .taken)
+      (c .before .before .before .if3 .taken) (c .finished .ensures)
 
   colon-returns-3 : colon-lts.Need-returns-3 (colon-calls t) (colon-at t) colon-reads.Post
   colon-returns-3 c = behind-other (c .before .before .before .if1 .left) (c .before .if2 .taken) (c .if3 .left)
@@ -119,15 +119,15 @@ module _ (t : ℕ) where
 
   colon-group-requires : colon-lts.Need-group-requires (colon-calls t) (colon-at t) colon-reads.Post
   colon-group-requires c κs =
-      let at = c .before .before .before .before .before in
+      let at = c .before .before .before .before .before .before in
       (let z = start at .pre .0 in omega arith, (sized at, few at))
 
   colon-returns-7 : colon-lts.Need-returns-7 (colon-calls t) (colon-at t) colon-reads.Post
   colon-returns-7 c =
-      let at = c .before .before .before .before .before .before in
+      let at = c .before .before .before .before .before .before .before in
       past at
-      (colon-group (sized at) (c .before .before .before .before .before .if5 .left) (c .before .before .before .if6 .taken) (c .before .before .if7 .left)
-      (c .group .ensures))
+      (colon-group (sized at) (c .before .before .before .before .before .before .if5 .left) (c .before .before .before .before .if6 .taken)
+      (c .before .before .before .if7 .left) (c .group .ensures))
 
   colon-returns-8 : colon-lts.Need-returns-8 (colon-calls t) (colon-at t) colon-reads.Post
   colon-returns-8 c =
@@ -158,14 +158,15 @@ module _ (t : ℕ) where
 
   colon-finished-requires-2 : colon-lts.Need-finished-requires-2 (colon-calls t) (colon-at t) colon-reads.Post
   colon-finished-requires-2 c κs =
-      let at = first (c .before .before .before .before) in
+      let at = first (c .before .before .before .before .before) in
       (gap-sized (partial at) (sized at) (few at), omega arith)
 
   colon-returns-10 : colon-lts.Need-returns-10 (colon-calls t) (colon-at t) colon-reads.Post
   colon-returns-10 c =
-      let at = c .before .before .before .before .before in
+      let at = c .before .before .before .before .before .before in
       past-both at
-      (gap-ends (sized (first at)) (few (first at)) (c .before .before .before .before .if9 .left) (c .before .before .if10 .taken) (c .finished2 .ensures))
+      (gap-ends (sized (first at)) (few (first at)) (c .before .before .before .before .before .if9 .left) (c .before .before .before .if10 .taken)
+      (c .finished2 .ensures))
 
   colon-returns-11 : colon-lts.Need-returns-11 (colon-calls t) (colon-at t) colon-reads.Post
   colon-returns-11 c =
@@ -174,16 +175,16 @@ module _ (t : ℕ) where
 
   colon-group-requires-2 : colon-lts.Need-group-requires-2 (colon-calls t) (colon-at t) colon-reads.Post
   colon-group-requires-2 c κs =
-      let at = first (c .before .before .before .before .before) in
-      let most = c .before .if11 .left in
+      let at = first (c .before .before .before .before .before .before) in
+      let most = c .before .before .if11 .left in
       (let z = start at .pre .0 in omega arith, (gap-sized (partial at) (sized at) (few at), omega arith))
 
   colon-returns-12 : colon-lts.Need-returns-12 (colon-calls t) (colon-at t) colon-reads.Post
   colon-returns-12 c =
-      let at = c .before .before .before .before .before .before in
+      let at = c .before .before .before .before .before .before .before in
       past-both at
-      (gap-group (sized (first at)) (few (first at)) (c .before .before .before .before .before .if9 .left) (c .before .before .before .if10 .left)
-      (c .before .before .if11 .left) (c .group2 .ensures))
+      (gap-group (sized (first at)) (few (first at)) (c .before .before .before .before .before .before .if9 .left)
+      (c .before .before .before .before .if10 .left) (c .before .before .before .if11 .left) (c .group2 .ensures))
 
   -- ── group ──
   group-loop-holds : group-lts.Need-loop-holds (group-calls t) (group-at t) group-reads.Post group-Inv-loop group-μ-loop
@@ -234,18 +235,18 @@ module _ (t : ℕ) where
 
   group-colon-requires : group-lts.Need-colon-requires (group-calls t) (group-at t) group-reads.Post group-Inv-loop group-μ-loop
   group-colon-requires c κs =
-      let at = c .before .before .before in
+      let at = c .before .before .before .before in
       let pre = begin at .pre in (
-        let z = pre .0 in let a = head at .loop .inv .0 in let b = c .before .if2 .left in let d = inside at in omega arith,
+        let z = pre .0 in let a = head at .loop .inv .0 in let b = c .before .before .if2 .left in let d = inside at in omega arith,
         push-sized _ (head at .loop .inv .3) (pre .1 .1) _,
       )
 
   group-returns-2 : group-lts.Need-returns-2 (group-calls t) (group-at t) group-reads.Post group-Inv-loop group-μ-loop
   group-returns-2 c =
-      let at = c .before .before .before .before in
+      let at = c .before .before .before .before .before in
       head at .loop .inv .4 _ _
-      (group-ends (head at .loop .inv .3) (begin at .pre .1 .1) (inside at) (is-none at (c .before .before .before .if1 .taken))
-      (c .before .before .if2 .left) (c .colon .ensures))
+      (group-ends (head at .loop .inv .3) (begin at .pre .1 .1) (inside at) (is-none at (c .before .before .before .before .if1 .taken))
+      (c .before .before .before .if2 .left) (c .colon .ensures))
 
   group-returns-3 : group-lts.Need-returns-3 (group-calls t) (group-at t) group-reads.Post group-Inv-loop group-μ-loop
   group-returns-3 c =

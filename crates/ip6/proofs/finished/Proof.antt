@@ -9,14 +9,14 @@ use Rattle.ip6.proofs.Spread.{finish-full, finish-few, finish-gapped}
 use Rattle.ip6.proofs.finished.Statement.{statement}
 use Rattle.ip6.proofs.finished.Tie as tie
 
-add-t9 : tie.Need-add-t9
-add-t9 c = search needs
+add-place : tie.Need-add-place
+add-place c = search needs
 
 spread-out-requires : tie.Need-spread-out-requires
 spread-out-requires c κs = search needs
 
-add-t12 : tie.Need-add-t12
-add-t12 c = search needs
+add-place-2 : tie.Need-add-place-2
+add-place-2 c = search needs
 
 returns : tie.Need-returns
 returns c =
@@ -42,4 +42,4 @@ returns-3 c =
     }
 
 pub finished-spec : {M : Type 1} → statement M
-finished-spec = tie.close (tie.spec add-t9 spread-out-requires add-t12 returns returns-2 returns-3)
+finished-spec = tie.close (tie.spec add-place spread-out-requires add-place-2 returns returns-2 returns-3)
