@@ -1,13 +1,11 @@
 -- For proofs. What the value of a hex digit says of the byte.
-use mathlib.Core.Path.{_≡_, refl, ap, _∙_}
+use mathlib.Core.Path.{_≡_, refl, sym, ap, _∙_}
 use mathlib.Core.Logic.{_⊎_, inl, inr, ⊎-elim}
 use mathlib.Core.Bool.{Bool, true, false, _&&_}
-use mathlib.Core.List.{List, [], _∷_}
-use Prim.Native.Nat.{ℕ, zero, suc, _+_, _-_, _≤_, _<_}
+use Prim.Native.Nat.{ℕ, zero, suc, _+_, _-_, _*_, _/_, _%_, _^_, _≤_, _<_}
 use native.Mathlib.Omega.{arith}
 use lib.Dec.{leb, eqb}
-use lib.ListN.{getD}
-use borrow.Author.Tests.{leb-true, le-leb, lt-leb, eqb-true, eqb-false}
+use borrow.Author.Tests.{leb-true, le-leb, lt-leb, eqb-true, eqb-false, eq-eqb, ne-eqb}
 use Rattle.exact.specs.Pick.{pick, pick-by}
 use Rattle.ip6.specs.Address.{among, hexOf}
 
@@ -59,11 +57,14 @@ module _ (c : ℕ) where
   unfolding hexOf
   hex-behind h = simp (among-no 48 57 c (inr (omega arith)), among-no 97 102 c (inr h), among-no 65 70 c (inr (omega arith)))
 
--- ── the table of `hex_value` ──
--- the values of the bytes from "0" to "f"
-abbrev pub hexValues : List ℕ
-hexValues =
-    0 ∷ 1 ∷ 2 ∷ 3 ∷ 4 ∷ 5 ∷ 6 ∷ 7 ∷ 8 ∷ 9 ∷ 16 ∷ 16 ∷ 16 ∷ 16 ∷ 16 ∷ 16 ∷ 16 ∷ 10 ∷ 11 ∷ 12 ∷ 13 ∷ 14 ∷ 15 ∷ 16 ∷ 16 ∷ 16 ∷ 16 ∷ 16 ∷ 16 ∷ 16 ∷ 16 ∷ 16 ∷ 16 ∷ 16 ∷ 16 ∷ 16 ∷ 16 ∷ 16 ∷ 16 ∷ 16 ∷ 16 ∷ 16 ∷ 16 ∷ 16 ∷ 16 ∷ 16 ∷ 16 ∷ 16 ∷ 16 ∷ 10 ∷ 11 ∷ 12 ∷ 13 ∷ 14 ∷ 15 ∷ []
+-- ── how `hex_value` has it ──
+-- a bit for each byte from "0" to "f", set where it is a digit
+abbrev bit : ℕ → ℕ
+bit i = 35465847073801215 / 2 ^ i % 2
+
+-- the value of a digit or a letter, by its low four bits
+abbrev value : ℕ → ℕ
+value c = c % 16 + c / 64 * 9
 
 -- what a test says of every number below n
 abbrev below : ℕ → (ℕ → Bool) → Bool
@@ -85,9 +86,22 @@ below-each (suc n) test all i h =
     by true e here before = ap test (eqb-true i n e) ∙ here
     by false e here before = before (let d = eqb-false i n e in omega arith)
 
-pub hex-table : (i : ℕ) → i < 55 → getD hexValues i 0 ≡ hexOf (48 + i)
+-- the two together are `hexOf`, of each of these bytes
+hex-bits : (i : ℕ) → i < 55 → pick (eqb (bit i) 0) 16 (value (48 + i)) ≡ hexOf (48 + i)
 unfolding hexOf
-hex-table i h = eqb-true _ _ (below-each 55 (λ i. eqb (getD hexValues i 0) (hexOf (48 + i))) refl i h)
+hex-bits i h = eqb-true _ _ (below-each 55 (λ i. eqb (pick (eqb (bit i) 0) 16 (value (48 + i))) (hexOf (48 + i))) refl i h)
+
+module _ (c : ℕ) (low : 48 ≤ c) (high : c - 48 < 55) where
+  back : 48 + (c - 48) ≡ c
+  back = omega arith
+
+  pub hex-clear : bit (c - 48) ≡ 0 → hexOf c ≡ 16
+  hex-clear e = ap hexOf (sym back) ∙ sym (hex-bits (c - 48) high) ∙ simp (eq-eqb (bit (c - 48)) 0 e)
+
+  pub hex-set : (bit (c - 48) ≡ 0 → ⊥) → value c ≡ hexOf c
+  hex-set e =
+      let here : pick (eqb (bit (c - 48)) 0) 16 (value (48 + (c - 48))) ≡ value (48 + (c - 48)) = simp (ne-eqb (bit (c - 48)) 0 e) in
+      ap value (sym back) ∙ sym here ∙ hex-bits (c - 48) high ∙ ap hexOf back
 
 pub hex-colon : hexOf 58 ≡ 16
 unfolding hexOf

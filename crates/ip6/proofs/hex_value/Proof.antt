@@ -1,10 +1,8 @@
--- The table has what `hexOf` says of the bytes from "0" to "f"; no other byte is a digit.
-use mathlib.Core.Path.{_≡_, sym, ap, _∙_}
-use Prim.Native.Nat.{_+_, _-_}
+-- The bit of a byte from "0" to "f" says whether it is a digit, and its low bits which one; no other byte is a digit.
+use mathlib.Core.Path.{sym}
 use native.Mathlib.Omega.{arith}
-use Rattle.ip6.specs.Address.{hexOf}
-use Rattle.ip6.specs.Hex.{hex-table, hex-before, hex-behind}
 use borrow.Author.Needs.{needs}
+use Rattle.ip6.specs.Hex.{hex-before, hex-behind, hex-clear, hex-set}
 use Rattle.ip6.proofs.hex_value.Statement.{statement}
 use Rattle.ip6.proofs.hex_value.Tie as tie
 
@@ -14,17 +12,23 @@ returns c = sym (hex-before _ (c .if1 .taken))
 cast-i : tie.Need-cast-i
 cast-i c = search needs
 
-element-copy-out-result : tie.Need-element-copy-out-result
-element-copy-out-result c = search needs
-
 returns-2 : tie.Need-returns-2
-returns-2 c =
-    let x = c .before .before .before .before .args .c in
-    let back : 48 + (x - 48) ≡ x = omega arith in
-    hex-table (x - 48) (omega arith) ∙ ap hexOf back
+returns-2 c = sym (hex-behind _ (omega arith))
+
+shr-if3 : tie.Need-shr-if3
+shr-if3 c = search needs
 
 returns-3 : tie.Need-returns-3
-returns-3 c = sym (hex-behind _ (omega arith))
+returns-3 c = sym (hex-clear _ (omega arith) (omega arith) (c .if3 .taken))
+
+mul-result : tie.Need-mul-result
+mul-result c = search needs
+
+add-result : tie.Need-add-result
+add-result c = search needs
+
+returns-4 : tie.Need-returns-4
+returns-4 c = hex-set _ (omega arith) (omega arith) (c .if3 .left)
 
 pub hex-value-spec : {M : Type 1} → statement M
-hex-value-spec = tie.close (tie.spec returns cast-i element-copy-out-result returns-2 returns-3)
+hex-value-spec = tie.close (tie.spec returns cast-i returns-2 shr-if3 returns-3 mul-result add-result returns-4)
