@@ -6,6 +6,7 @@
 use exact::Scan;
 ghost use mathlib.Core.Path.{_≡_};
 ghost use Prim.Native.Nat.{ℕ, _+_, _^_, _<_};
+ghost use lib.ListN.{length};
 ghost use Rattle.exact.specs.Machine.{run};
 ghost use Rattle.ip6.specs.Address.{hexOf};
 ghost use Rattle.ip6.specs.Machine.{start, digits, behind, step};
@@ -56,7 +57,8 @@ fn spread_out(groups: &mut [u16; 8], count: usize, gap: usize)
 }
 
 // What the functions below answer: one of these numbers, and in place the length of an accepted address or the place of the byte that
-// rules it out. A `Scan` would come back through memory, at each of their calls.
+// rules it out. A `Scan` would come back through memory, at each of their calls. `group` and `colon` take the slice behind a reference:
+// a slice itself would be copied into the caller's memory at each call, and the call could be no jump.
 const ACCEPTED: u8 = 0;
 
 const MORE: u8 = 1;
@@ -85,7 +87,7 @@ fn finished(groups: &mut [u16; 8], count: usize, gap: usize, i: usize, place: &m
 
 // A group begins at place i.
 fn group(
-    s: &[u8],
+    s: &&[u8],
     i: usize,
     end: u8,
     groups: &mut [u16; 8],
@@ -93,15 +95,16 @@ fn group(
     gap: usize,
     place: &mut usize,
 ) -> u8
-    requires { ⌜ Sized (sofar (now groups) count gap) × (count < 8) ⌝ }
-    ensures { λ r. ⌜ From end (now (s .entry)) i (digits (seenOf (sofar (now (groups .entry)) count gap)) 0 0)
+    requires { ⌜ Sized (sofar (now groups) count gap) × (count < 8) × (length (now (now s)) < 2 ^ 64) ⌝ }
+    ensures { λ r. ⌜ From end (now (now (s .entry))) i (digits (seenOf (sofar (now (groups .entry)) count gap)) 0 0)
         (scanOf r (now (place .exit))) (now (groups .exit)) ⌝ }
 {
+    let bytes = *s;
     let mut v: u16 = 0;
     let mut n: usize = 0;
     let mut at = i;
-    while at < s.len() {
-        let d = hex_value(s[at]);
+    while at < bytes.len() {
+        let d = hex_value(bytes[at]);
         if d == 16 {
             if n == 0 {
                 *place = at;
@@ -123,7 +126,7 @@ fn group(
 
 // A colon part, or the end, stands at place i.
 fn colon(
-    s: &[u8],
+    s: &&[u8],
     i: usize,
     end: u8,
     groups: &mut [u16; 8],
@@ -131,14 +134,15 @@ fn colon(
     gap: usize,
     place: &mut usize,
 ) -> u8
-    requires { ⌜ Sized (sofar (now groups) count gap) ⌝ }
-    ensures { λ r. ⌜ From end (now (s .entry)) i (behind (seenOf (sofar (now (groups .entry)) count gap)))
+    requires { ⌜ Sized (sofar (now groups) count gap) × (length (now (now s)) < 2 ^ 64) ⌝ }
+    ensures { λ r. ⌜ From end (now (now (s .entry))) i (behind (seenOf (sofar (now (groups .entry)) count gap)))
         (scanOf r (now (place .exit))) (now (groups .exit)) ⌝ }
 {
-    if s.len() <= i {
+    let bytes = *s;
+    if bytes.len() <= i {
         return MORE;
     }
-    let c = s[i];
+    let c = bytes[i];
     if c != b':' {
         if c == end {
             return finished(groups, count, gap, i, place);
@@ -151,10 +155,10 @@ fn colon(
         return REFUSED;
     }
     let next = i + 1;
-    if s.len() <= next {
+    if bytes.len() <= next {
         return MORE;
     }
-    if s[next] != b':' {
+    if bytes[next] != b':' {
         if count == 0 {
             *place = next;
             return REFUSED;
@@ -166,11 +170,11 @@ fn colon(
         return REFUSED;
     }
     let after = next + 1;
-    if s.len() <= after {
+    if bytes.len() <= after {
         return MORE;
     }
     let counted = count + 1;
-    if s[after] == end {
+    if bytes[after] == end {
         return finished(groups, counted, counted, after, place);
     }
     if 7 <= count {
@@ -189,9 +193,9 @@ fn begun(s: &[u8], end: u8, groups: &mut [u16; 8], place: &mut usize) -> u8
         return MORE;
     }
     if s[0] == b':' {
-        colon(s, 0, end, groups, 0, 0, place)
+        colon(&s, 0, end, groups, 0, 0, place)
     } else {
-        group(s, 0, end, groups, 0, 0, place)
+        group(&s, 0, end, groups, 0, 0, place)
     }
 }
 

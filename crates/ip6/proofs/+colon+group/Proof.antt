@@ -28,23 +28,23 @@ use Rattle.ip6.proofs.hex_value.Reads as hex-value-reads
 use Rattle.ip6.proofs.+colon+group.{statement}
 use Rattle.ip6.proofs.+colon+group.Tie.{close}
 
-abbrev μ-colon : Measures 3 colon-kinds.ps ℕ
-μ-colon κs a = length (a .0 .now) - a .1 .0
+abbrev μ-colon : Measures 4 colon-kinds.ps ℕ
+μ-colon κs a = length (a .0 .now .now) - a .1 .0
 
-abbrev μ-group : Measures 3 group-kinds.ps ℕ
-μ-group κs a = length (a .0 .now) - a .1 .0
+abbrev μ-group : Measures 4 group-kinds.ps ℕ
+μ-group κs a = length (a .0 .now .now) - a .1 .0
 
-abbrev colon-at : ℕ → In 3 colon-kinds.ps
-colon-at t = and 3 colon-kinds.ps (is 3 colon-kinds.ps μ-colon t) colon-reads.Pre
+abbrev colon-at : ℕ → In 4 colon-kinds.ps
+colon-at t = and 4 colon-kinds.ps (is 4 colon-kinds.ps μ-colon t) colon-reads.Pre
 
-abbrev colon-below : ℕ → In 3 colon-kinds.ps
-colon-below t = and 3 colon-kinds.ps (falls 3 colon-kinds.ps _<_ μ-colon t) colon-reads.Pre
+abbrev colon-below : ℕ → In 4 colon-kinds.ps
+colon-below t = and 4 colon-kinds.ps (falls 4 colon-kinds.ps _<_ μ-colon t) colon-reads.Pre
 
-abbrev group-at : ℕ → In 3 group-kinds.ps
-group-at t = and 3 group-kinds.ps (is 3 group-kinds.ps μ-group t) group-reads.Pre
+abbrev group-at : ℕ → In 4 group-kinds.ps
+group-at t = and 4 group-kinds.ps (is 4 group-kinds.ps μ-group t) group-reads.Pre
 
-abbrev group-below : ℕ → In 3 group-kinds.ps
-group-below t = and 3 group-kinds.ps (falls 3 group-kinds.ps _<_ μ-group t) group-reads.Pre
+abbrev group-below : ℕ → In 4 group-kinds.ps
+group-below t = and 4 group-kinds.ps (falls 4 group-kinds.ps _<_ μ-group t) group-reads.Pre
 
 abbrev colon-calls : ℕ → colon-lts.Claims
 colon-calls t = (finished-reads.Asked, finished-reads.Learnt, group-below t, group-reads.Post)
@@ -54,13 +54,13 @@ group-calls t = (hex-value-reads.Asked, hex-value-reads.Learnt, colon-below t, c
 
 -- what is answered from here answers from where the group begins
 abbrev group-Inv-loop : group-lts.InvT-loop
-group-Inv-loop s i end groups₀ count gaps place₀ v₀ n₀ at₀ groups place v n at =
+group-Inv-loop s i end groups₀ count gaps place₀ bytes v₀ n₀ at₀ groups place v n at =
     (at ≡ i + n) × (n ≤ 4) × (v < 16 ^ n) × Sized (sofar groups count gaps)
-    × ((r : Scan) (g : List ℕ) → From end s at (digits (seenOf (sofar groups count gaps)) n v) r g
-    → From end s i (digits (seenOf (sofar groups₀ count gaps)) 0 0) r g)
+    × ((r : Scan) (g : List ℕ) → From end bytes at (digits (seenOf (sofar groups count gaps)) n v) r g
+    → From end bytes i (digits (seenOf (sofar groups₀ count gaps)) 0 0) r g)
 
 abbrev group-μ-loop : group-lts.MeasureT-loop
-group-μ-loop s i end groups₀ count gaps place₀ v₀ n₀ at₀ groups place v n at = length s - at
+group-μ-loop s i end groups₀ count gaps place₀ bytes v₀ n₀ at₀ groups place v n at = length bytes - at
 
 module _ (t : ℕ) where
   -- ── colon: behind a group ──
@@ -71,7 +71,9 @@ module _ (t : ℕ) where
   colon-shared-slice-read-c c = c .before .if1 .left
 
   colon-finished-requires : colon-lts.Need-finished-requires (colon-calls t) (colon-at t) colon-reads.Post
-  colon-finished-requires c κs = (c .before .before .before .before .before .before .before .pre .1, omega arith)
+  colon-finished-requires c κs =
+      let pre = c .before .before .before .before .before .before .before .pre .1 in
+      (pre .0, let h = pre .1 in omega arith)
 
   colon-returns-2 : colon-lts.Need-returns-2 (colon-calls t) (colon-at t) colon-reads.Post
   colon-returns-2 c =
@@ -83,7 +85,7 @@ module _ (t : ℕ) where
 
   colon-returns-4 : colon-lts.Need-returns-4 (colon-calls t) (colon-at t) colon-reads.Post
   colon-returns-4 c =
-      behind-full (c .before .before .before .before .before .pre .1) (c .before .before .before .if1 .left) (c .before .if2 .left) (c .if4 .taken)
+      behind-full (c .before .before .before .before .before .pre .1 .0) (c .before .before .before .if1 .left) (c .before .if2 .left) (c .if4 .taken)
 
   -- ── colon: a colon may stand there ──
   module _ (c : colon-lts.Else4 (colon-calls t) (colon-at t) colon-reads.Post) where
@@ -94,17 +96,20 @@ module _ (t : ℕ) where
     partial = sofar (start .args .groups .now) (start .args .count) (start .args .gap)
 
     abbrev sized : Sized partial
-    sized = start .pre .1
+    sized = start .pre .1 .0
+
+    abbrev fits : length (start .args .s .now .now) < 2 ^ 64
+    fits = start .pre .1 .1
 
     abbrev few : partial .count < 8
     few = c .if4 .left
 
-    past : {r : Scan} {g : List ℕ} → From (start .args .end) (start .args .s .now) (start .args .i + 1) (colon (seenOf partial)) r g
-        → From (start .args .end) (start .args .s .now) (start .args .i) (behind (seenOf partial)) r g
+    past : {r : Scan} {g : List ℕ} → From (start .args .end) (start .args .s .now .now) (start .args .i + 1) (colon (seenOf partial)) r g
+        → From (start .args .end) (start .args .s .now .now) (start .args .i) (behind (seenOf partial)) r g
     past f = behind-colon sized (c .before .before .before .if1 .left) (c .before .if2 .left) few f
 
   colon-add-next : colon-lts.Need-add-next (colon-calls t) (colon-at t) colon-reads.Post
-  colon-add-next c = omega arith
+  colon-add-next c = let h = fits c in omega arith
 
   colon-returns-5 : colon-lts.Need-returns-5 (colon-calls t) (colon-at t) colon-reads.Post
   colon-returns-5 c = past (c .before) (wants (c .if5 .taken))
@@ -120,7 +125,7 @@ module _ (t : ℕ) where
   colon-group-requires : colon-lts.Need-group-requires (colon-calls t) (colon-at t) colon-reads.Post
   colon-group-requires c κs =
       let at = c .before .before .before .before .before .before in
-      (let z = start at .pre .0 in omega arith, (sized at, few at))
+      (let z = start at .pre .0 in omega arith, (sized at, few at, fits at))
 
   colon-returns-7 : colon-lts.Need-returns-7 (colon-calls t) (colon-at t) colon-reads.Post
   colon-returns-7 c =
@@ -140,12 +145,12 @@ module _ (t : ℕ) where
     first = c .before .before .before .before
 
     past-both : {r : Scan} {g : List ℕ}
-        → From (start first .args .end) (start first .args .s .now) (start first .args .i + 1 + 1) (gap (held (partial first))) r g
-        → From (start first .args .end) (start first .args .s .now) (start first .args .i) (behind (seenOf (partial first))) r g
+        → From (start first .args .end) (start first .args .s .now .now) (start first .args .i + 1 + 1) (gap (held (partial first))) r g
+        → From (start first .args .end) (start first .args .s .now .now) (start first .args .i) (behind (seenOf (partial first))) r g
     past-both f = past first (colon-gap (sized first) (c .before .before .before .if5 .left) (c .before .if6 .left) (c .if8 .left) f)
 
   colon-add-after : colon-lts.Need-add-after (colon-calls t) (colon-at t) colon-reads.Post
-  colon-add-after c = omega arith
+  colon-add-after c = let h = fits (first c) in omega arith
 
   colon-returns-9 : colon-lts.Need-returns-9 (colon-calls t) (colon-at t) colon-reads.Post
   colon-returns-9 c = past-both (c .before) (wants (c .if9 .taken))
@@ -159,7 +164,7 @@ module _ (t : ℕ) where
   colon-finished-requires-2 : colon-lts.Need-finished-requires-2 (colon-calls t) (colon-at t) colon-reads.Post
   colon-finished-requires-2 c κs =
       let at = first (c .before .before .before .before .before) in
-      (gap-sized (partial at) (sized at) (few at), omega arith)
+      (gap-sized (partial at) (sized at) (few at), let h = fits at in omega arith)
 
   colon-returns-10 : colon-lts.Need-returns-10 (colon-calls t) (colon-at t) colon-reads.Post
   colon-returns-10 c =
@@ -177,7 +182,7 @@ module _ (t : ℕ) where
   colon-group-requires-2 c κs =
       let at = first (c .before .before .before .before .before .before) in
       let most = c .before .before .if11 .left in
-      (let z = start at .pre .0 in omega arith, (gap-sized (partial at) (sized at) (few at), omega arith))
+      (let z = start at .pre .0 in omega arith, (gap-sized (partial at) (sized at) (few at), omega arith, fits at))
 
   colon-returns-12 : colon-lts.Need-returns-12 (colon-calls t) (colon-at t) colon-reads.Post
   colon-returns-12 c =
@@ -204,15 +209,15 @@ module _ (t : ℕ) where
     abbrev begin : group-lts.Start (group-calls t) (group-at t) group-reads.Post group-Inv-loop group-μ-loop
     begin = head .before .before
 
-    abbrev inside : head .loop .at < length (begin .args .s .now)
+    abbrev inside : head .loop .at < length (begin .args .s .now .now)
     inside = c .before .before .loop-test .taken
 
-    is-none : c .hex-value .result ≡ 16 → hexOf (getD (begin .args .s .now) (head .loop .at) 0) ≡ 16
+    is-none : c .hex-value .result ≡ 16 → hexOf (getD (begin .args .s .now .now) (head .loop .at) 0) ≡ 16
     is-none e = sym (c .hex-value .ensures) ∙ e
 
-    is-digit : (c .hex-value .result ≡ 16 → ⊥) → hexOf (getD (begin .args .s .now) (head .loop .at) 0) < 16
+    is-digit : (c .hex-value .result ≡ 16 → ⊥) → hexOf (getD (begin .args .s .now .now) (head .loop .at) 0) < 16
     is-digit n =
-        let a = hex-most (getD (begin .args .s .now) (head .loop .at) 0) in
+        let a = hex-most (getD (begin .args .s .now .now) (head .loop .at) 0) in
         let e = c .hex-value .ensures in
         omega arith
 
@@ -238,7 +243,7 @@ module _ (t : ℕ) where
       let at = c .before .before .before .before in
       let pre = begin at .pre in (
         let z = pre .0 in let a = head at .loop .inv .0 in let b = c .before .before .if2 .left in let d = inside at in omega arith,
-        push-sized _ (head at .loop .inv .3) (pre .1 .1) _,
+        (push-sized _ (head at .loop .inv .3) (pre .1 .1) _, pre .1 .2),
       )
 
   group-returns-2 : group-lts.Need-returns-2 (group-calls t) (group-at t) group-reads.Post group-Inv-loop group-μ-loop
@@ -278,7 +283,7 @@ module _ (t : ℕ) where
   group-add-n c = omega arith
 
   group-add-at : group-lts.Need-add-at (group-calls t) (group-at t) group-reads.Post group-Inv-loop group-μ-loop
-  group-add-at c = omega arith
+  group-add-at c = let h = begin (c .before .before) .pre .1 .2 in omega arith
 
   group-loop-less : group-lts.Need-loop-less (group-calls t) (group-at t) group-reads.Post group-Inv-loop group-μ-loop
   group-loop-less c = omega arith

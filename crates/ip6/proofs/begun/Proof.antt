@@ -33,10 +33,10 @@ group-requires : tie.Need-group-requires
 group-requires c κs = search needs
 
 returns-2 : tie.Need-returns-2
-returns-2 c = at-colon (c .before .before .before .before .before .if1 .left) (c .before .before .before .if2 .taken) (c .colon .ensures)
+returns-2 c = at-colon (c .before .before .before .before .before .before .if1 .left) (c .before .before .before .before .if2 .taken) (c .colon .ensures)
 
 returns-3 : tie.Need-returns-3
-returns-3 c = at-group (c .before .before .before .before .before .if1 .left) (c .before .before .before .if2 .left) (c .group .ensures)
+returns-3 c = at-group (c .before .before .before .before .before .before .if1 .left) (c .before .before .before .before .if2 .left) (c .group .ensures)
 
 pub begun-spec : {M : Type 1} → statement M
 begun-spec =
