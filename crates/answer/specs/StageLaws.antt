@@ -29,11 +29,11 @@ module _ {A : Type 0} (P : Parser A) (Q : A → Parser Header) (s : List ℕ) (a
   abbrev Stage : Reading → Type 0
   Stage r = Answers s (shift at ((P then Q) .verdict (drop at s))) r
 
-  pub as-more : {r : Reading} → more ≡ P .verdict (drop at s) → ((t : List ℕ) → Answers t more r) → Stage r
-  as-more e a = answers-as (a s) (stage-more P Q s at e)
+  pub as-more : {r : Reading} → more ≡ P .verdict (drop at s) → Answers s more r → Stage r
+  as-more e a = answers-as a (stage-more P Q s at e)
 
-  pub as-refused : {r : Reading} (k p : ℕ) → refused k p ≡ P .verdict (drop at s) → ((t : List ℕ) → Answers t (refused k (at + p)) r) → Stage r
-  as-refused k p e a = answers-as (a s) (stage-refused P Q s at k p e)
+  pub as-refused : {r : Reading} (k p : ℕ) → refused k p ≡ P .verdict (drop at s) → Answers s (refused k (at + p)) r → Stage r
+  as-refused k p e a = answers-as a (stage-refused P Q s at k p e)
 
   pub as-accepted : {r : Reading} (a : A) (n : ℕ) → accepted a n ≡ P .verdict (drop at s) → Answers s (shift (at + n) (Q a .verdict (drop (at + n) s))) r → Stage r
   as-accepted a n e h = answers-as h (stage-accepted P Q s at a n _ e refl)
@@ -43,11 +43,11 @@ module _ {A : Type 0} (P : Parser A) (Q : A → Parser Header) (s : List ℕ) wh
   abbrev next : Verdict A → Verdict Header
   next v = after v (λ a t. Q a .verdict t) s
 
-  pub first-more : {r : Reading} → more ≡ P .verdict s → ((t : List ℕ) → Answers t more r) → Answers s ((P then Q) .verdict s) r
-  first-more e a = answers-as (a s) (ap next e)
+  pub first-more : {r : Reading} → more ≡ P .verdict s → Answers s more r → Answers s ((P then Q) .verdict s) r
+  first-more e a = answers-as a (ap next e)
 
-  pub first-refused : {r : Reading} (k p : ℕ) → refused k p ≡ P .verdict s → ((t : List ℕ) → Answers t (refused k p) r) → Answers s ((P then Q) .verdict s) r
-  first-refused k p e a = answers-as (a s) (ap next e)
+  pub first-refused : {r : Reading} (k p : ℕ) → refused k p ≡ P .verdict s → Answers s (refused k p) r → Answers s ((P then Q) .verdict s) r
+  first-refused k p e a = answers-as a (ap next e)
 
   pub first-accepted : {r : Reading} (a : A) (n : ℕ) → accepted a n ≡ P .verdict s → Answers s (shift n (Q a .verdict (drop n s))) r → Answers s ((P then Q) .verdict s) r
   first-accepted a n e h = answers-as h (ap next e)

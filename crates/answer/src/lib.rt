@@ -7,6 +7,7 @@ ghost use Prim.Native.Nat.{ℕ};
 ghost use Rattle.exact.specs.Claim.{more as moreOf, refused as refusedOf};
 ghost use Rattle.record.specs.Records.{bare};
 ghost use Rattle.answer.specs.Answers.{Answers, numberOf};
+ghost use Rattle.answer.specs.Sight.{kindOnly, readingOf};
 
 // The field that holds the first dead byte: document 01's numbers 1 to 9.
 pub enum Refusal {
@@ -65,21 +66,50 @@ pub fn blank(kind: Kind) -> Record
     }
 }
 
-pub fn more() -> Reading
-    ensures { λ r. ⌜ ((s : List ℕ) → Answers s moreOf r) ⌝ }
+// Who is calling, as a text line says it: the addresses stand at the front of their arrays, and what the kind does not use is zero.
+pub struct Caller {
+    pub kind: Kind,
+    pub source: [u8; 16],
+    pub destination: [u8; 16],
+    pub source_port: u16,
+    pub destination_port: u16,
+}
+
+// What is seen in the bytes read, before a record is made of it. Of a version 2 header the caller has only the kind: its addresses stand in
+// the bytes themselves, from 16 on.
+pub struct Seen {
+    pub verdict: Verdict,
+    pub caller: Caller,
+}
+
+// A caller of whom only the kind is known.
+pub fn of_kind(kind: Kind) -> Caller
+    ensures { λ r. ⌜ r ≡ kindOnly kind ⌝ }
 {
-    Reading {
-        verdict: Verdict::More,
-        record: blank(Kind::Unspecified),
+    Caller {
+        kind,
+        source: [0; 16],
+        destination: [0; 16],
+        source_port: 0,
+        destination_port: 0,
     }
 }
 
-pub fn refused(refusal: Refusal, place: usize) -> Reading
-    ensures { λ r. ⌜ ((s : List ℕ) → Answers s (refusedOf (numberOf refusal) place) r) ⌝ }
+pub fn more() -> Seen
+    ensures { λ r. ⌜ ((s : List ℕ) → Answers s moreOf (readingOf s r)) ⌝ }
 {
-    Reading {
+    Seen {
+        verdict: Verdict::More,
+        caller: of_kind(Kind::Unspecified),
+    }
+}
+
+pub fn refused(refusal: Refusal, place: usize) -> Seen
+    ensures { λ r. ⌜ ((s : List ℕ) → Answers s (refusedOf (numberOf refusal) place) (readingOf s r)) ⌝ }
+{
+    Seen {
         verdict: Verdict::Refused { refusal, place },
-        record: blank(Kind::Unspecified),
+        caller: of_kind(Kind::Unspecified),
     }
 }
 

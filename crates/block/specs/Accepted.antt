@@ -15,11 +15,11 @@ use Rattle.answer.specs.StageLaws.{answers-as}
 
 -- a header of n bytes that says the record y and the TLV area a
 pub as-block : (s : List ℕ) (n : ℕ) (x y : Record) (a : List ℕ) {r : Reading} → x ≡ y → areaOf 2 (y .kind) (take n s) ≡ a
-    → ((t : List ℕ) → Answers t (accepted (blocked x (areaOf 2 (x .kind) (take n t))) n) r)
+    → Answers s (accepted (blocked x (areaOf 2 (x .kind) (take n s))) n) r
     → Answers s (shift n (accepted (blocked y a) 0)) r
 as-block s n x y a e here answer =
     let zero-more : n ≡ n + 0 = omega arith in
-    answers-as (answer s)
+    answers-as answer
     (ap (λ (z : Record). accepted (blocked z (areaOf 2 (z .kind) (take n s))) n) e
     ∙ ap (λ (t : List ℕ). accepted (blocked y t) n) here
     ∙ ap (λ (m : ℕ). accepted (blocked y a) m) zero-more)

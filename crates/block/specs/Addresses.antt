@@ -12,15 +12,15 @@ use Rattle.exact.specs.Parser.{Parser, just, _then_, spell, reach, reach-le}
 use Rattle.exact.specs.Byte.{countVerdict}
 use Rattle.record.specs.declared.Kind.{Kind}
 use Rattle.tlv.specs.Region.{judge}
-use Rattle.record.specs.declared.Record.{Record}
 use Rattle.record.specs.Kinds.{addressLength, portLength, blockLength}
 use Rattle.record.specs.Records.{recordOf}
+use Rattle.record.specs.AddressBlock.{blockRecord}
 use Rattle.header.specs.Header.{Header}
 use Rattle.header.specs.BlockFields.{blocked, address, port, area, addresses, fits}
 use Rattle.answer.specs.declared.Reading.{Reading}
 use Rattle.answer.specs.Answers.{Answers, areaOf}
 use Rattle.answer.specs.StageLaws.{answers-as, as-more, as-refused, as-accepted}
-use Rattle.block.specs.Parts.{portAt, recordAt}
+use Rattle.block.specs.Parts.{portAt, recordAt, record-at}
 use Rattle.block.specs.Takes.{Short, Takes, then-short, then-at}
 use Rattle.block.specs.Leaves.{takes-count, takes-spelled, takes-port, area-judged}
 use Rattle.block.specs.KindLaws.{block-kind}
@@ -113,10 +113,10 @@ module _ {k : Kind} {n a : ℕ} {s : List ℕ} (here : Reached k n a s) where
       ∙ ap (λ (m : ℕ). spell (judge 9 (n - m) behind) behind) (here .block)
       ∙ sym (area-judged (blockLength k) n behind (here .fit))
 
-  pub tlvs-more : {r : Reading} → more ≡ judge 9 (n - a) behind → ((t : List ℕ) → Answers t more r) → Answers s said r
+  pub tlvs-more : {r : Reading} → more ≡ judge 9 (n - a) behind → Answers s more r → Answers s said r
   tlvs-more e h = answers-as (as-more tlvs says s (16 + a) (spelt more e) h) at-tlvs
 
-  pub tlvs-refused : {r : Reading} (p : ℕ) → refused 9 p ≡ judge 9 (n - a) behind → ((t : List ℕ) → Answers t (refused 9 (16 + a + p)) r) → Answers s said r
+  pub tlvs-refused : {r : Reading} (p : ℕ) → refused 9 p ≡ judge 9 (n - a) behind → Answers s (refused 9 (16 + a + p)) r → Answers s said r
   tlvs-refused p e h = answers-as (as-refused tlvs says s (16 + a) 9 p (spelt (refused 9 p) e) h) at-tlvs
 
   -- the TLV area is the part of the header behind the address block
@@ -126,12 +126,12 @@ module _ {k : Kind} {n a : ℕ} {s : List ℕ} (here : Reached k n a s) where
       ∙ ap (λ (j : ℕ). drop (16 + j) (take (16 + a + m) s)) (sym (here .block))
       ∙ area-at s (16 + a) m (here .whole)
 
-  pub tlvs-accepted : (v m : ℕ) (x : Record) {r : Reading} → accepted v m ≡ judge 9 (n - a) behind → x ≡ recordAt k 16 s
-      → ((t : List ℕ) → Answers t (accepted (blocked x (areaOf 2 (x .kind) (take (16 + a + m) t))) (16 + a + m)) r) → Answers s said r
-  tlvs-accepted v m x e is h =
+  pub tlvs-accepted : (v m : ℕ) {r : Reading} → accepted v m ≡ judge 9 (n - a) behind
+      → Answers s (accepted (blocked (blockRecord k (drop 16 s)) (areaOf 2 k (take (16 + a + m) s))) (16 + a + m)) r → Answers s said r
+  tlvs-accepted v m e h =
       answers-as
       (as-accepted tlvs says s (16 + a) (take m behind) m (spelt (accepted v m) e)
-      (as-block s (16 + a + m) x (recordAt k 16 s) (take m behind) is (area-said m) h))
+      (as-block s (16 + a + m) (blockRecord k (drop 16 s)) (recordAt k 16 s) (take m behind) (record-at k 16 s) (area-said m) h))
       at-tlvs
 
   -- they lie in the bytes

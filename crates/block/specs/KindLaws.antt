@@ -8,13 +8,15 @@ use Rattle.record.specs.declared.Kind.{Kind}
 use Rattle.record.specs.declared.Kind.the-variants.{Local, Unspecified, Ip4, Ip6, Unix}
 use Rattle.record.specs.Kinds.{blockLength}
 use Rattle.record.specs.Records.{bare}
+use Rattle.record.specs.AddressBlock.{blockRecord}
 use Rattle.header.specs.BlockFields.{skipped, addressed, familyRest}
 use Rattle.answer.specs.Answers.{blockArea}
 
 -- a kind without an address block
 pub bare-kind : (k : Kind) → blockLength k ≡ 0 → ((f : List ℕ) → blockArea k f ≡ []) × (skipped (bare k) .verdict ≡ familyRest k .verdict)
-bare-kind Local e = (λ f. refl, refl)
-bare-kind Unspecified e = (λ f. refl, refl)
+    × ((f : List ℕ) → blockRecord k f ≡ bare k)
+bare-kind Local e = (λ f. refl, refl, λ f. refl)
+bare-kind Unspecified e = (λ f. refl, refl, λ f. refl)
 bare-kind (Ip4 t) e = absurd (omega arith)
 bare-kind (Ip6 t) e = absurd (omega arith)
 bare-kind (Unix t) e = absurd (omega arith)

@@ -1,17 +1,15 @@
 // The version 2 header, a field at a time (document 01, "The binary block"): a stage reads its field and hands on to the next, and
 // what it answers is the verdict on the fields from its place on. No public function has a `requires`.
-use answer::Reading;
 use answer::Refusal;
+use answer::Seen;
 use answer::Verdict;
-use answer::blank;
 use answer::more;
+use answer::of_kind;
 use answer::refused;
 use exact::Scan;
 use exact::literal;
 use record::Family;
 use record::Kind;
-use record::Record;
-use record::addresses_of;
 use record::block_length;
 use record::family_of;
 use tlv::region;
@@ -26,8 +24,10 @@ ghost use Rattle.exact.specs.Parser.{_then_};
 ghost use Rattle.record.specs.Kinds.{blockLength};
 ghost use Rattle.record.specs.Records.{bare};
 ghost use Rattle.header.specs.BlockFields.{blocked, block as blockField, command as commandField, commandRest, familyField, familyRest, skipped as skippedField, addressed as addressedField, addresses as addressesField, fits as fitsIn};
+ghost use Rattle.record.specs.AddressBlock.{blockRecord};
 ghost use Rattle.answer.specs.Answers.{Answers, areaOf};
-ghost use Rattle.block.specs.Parts.{numberAt, recordAt};
+ghost use Rattle.answer.specs.Sight.{readingOf};
+ghost use Rattle.block.specs.Parts.{numberAt};
 
 // The number at a place, high byte first.
 fn number(s: &[u8], at: usize) -> u16
@@ -37,14 +37,6 @@ fn number(s: &[u8], at: usize) -> u16
     let high = s[at] as u16;
     let low = s[at + 1] as u16;
     high * 256 + low
-}
-
-// The record that the address block at 16 says.
-fn connection(s: &[u8], kind: Kind) -> Record
-    requires { ⌜ 16 ≤ length (now s) ⌝ }
-    ensures { λ r. ⌜ r ≡ recordAt kind 16 (now (s .entry)) ⌝ }
-{
-    addresses_of(kind, &s[16..])
 }
 
 // "L must be A, or at least A + 3."
@@ -58,20 +50,20 @@ fn fits(length: usize, kind: Kind) -> bool
     block + 3 <= length
 }
 
-// The answer to bytes that begin with a header of this length and connection.
-fn accepted(length: usize, connection: Record) -> Reading
-    ensures { λ r. ⌜ ((s : List ℕ) → Answers s (acceptedOf (blocked connection (areaOf 2 (connection .kind) (take length s))) length) r) ⌝ }
+// The answer to bytes that begin with a header of this length and kind: the address block stands in them from 16 on.
+fn accepted(length: usize, kind: Kind) -> Seen
+    ensures { λ r. ⌜ ((s : List ℕ) → Answers s (acceptedOf (blocked (blockRecord kind (drop 16 s)) (areaOf 2 kind (take length s))) length) (readingOf s r)) ⌝ }
 {
-    Reading {
+    Seen {
         verdict: Verdict::Accepted { length, version: 2 },
-        record: connection,
+        caller: of_kind(kind),
     }
 }
 
 // From 14 on, where the block is not looked at.
-fn skipped(s: &[u8], kind: Kind) -> Reading
+fn skipped(s: &[u8], kind: Kind) -> Seen
     requires { ⌜ blockLength kind ≡ 0 ⌝ }
-    ensures { λ r. ⌜ Answers (now (s .entry)) (shift 14 (skippedField (bare kind) .verdict (drop 14 (now (s .entry))))) r ⌝ }
+    ensures { λ r. ⌜ Answers (now (s .entry)) (shift 14 (skippedField (bare kind) .verdict (drop 14 (now (s .entry))))) (readingOf (now (s .entry)) r) ⌝ }
 {
     if s.len() < 16 {
         return more();
@@ -80,13 +72,13 @@ fn skipped(s: &[u8], kind: Kind) -> Reading
     if s.len() < end {
         return more();
     }
-    accepted(end, blank(kind))
+    accepted(end, kind)
 }
 
 // From 16 on: the address block, and the TLVs that fill the rest of the length.
-fn addresses(s: &[u8], kind: Kind, length: usize) -> Reading
+fn addresses(s: &[u8], kind: Kind, length: usize) -> Seen
     requires { ⌜ (blockLength kind ≡ 0 → ⊥) × (fitsIn (blockLength kind) length ≡ true) ⌝ }
-    ensures { λ r. ⌜ Answers (now (s .entry)) (shift 16 (addressesField kind length .verdict (drop 16 (now (s .entry))))) r ⌝ }
+    ensures { λ r. ⌜ Answers (now (s .entry)) (shift 16 (addressesField kind length .verdict (drop 16 (now (s .entry))))) (readingOf (now (s .entry)) r) ⌝ }
 {
     let block = block_length(kind);
     let at = 16 + block;
@@ -96,14 +88,14 @@ fn addresses(s: &[u8], kind: Kind, length: usize) -> Reading
     match region(&s[at..], length - block) {
         Scan::More => more(),
         Scan::Refused(place) => refused(Refusal::Tlv, at + place),
-        Scan::Accepted(_, n) => accepted(at + n, connection(s, kind)),
+        Scan::Accepted(_, n) => accepted(at + n, kind),
     }
 }
 
 // From 14 on, for a kind with addresses.
-fn addressed(s: &[u8], kind: Kind) -> Reading
+fn addressed(s: &[u8], kind: Kind) -> Seen
     requires { ⌜ (blockLength kind ≡ 0 → ⊥) ⌝ }
-    ensures { λ r. ⌜ Answers (now (s .entry)) (shift 14 (addressedField kind .verdict (drop 14 (now (s .entry))))) r ⌝ }
+    ensures { λ r. ⌜ Answers (now (s .entry)) (shift 14 (addressedField kind .verdict (drop 14 (now (s .entry))))) (readingOf (now (s .entry)) r) ⌝ }
 {
     if s.len() < 16 {
         return more();
@@ -117,8 +109,8 @@ fn addressed(s: &[u8], kind: Kind) -> Reading
 }
 
 // From 14 on, under PROXY.
-fn family_rest(s: &[u8], kind: Kind) -> Reading
-    ensures { λ r. ⌜ Answers (now (s .entry)) (shift 14 (familyRest kind .verdict (drop 14 (now (s .entry))))) r ⌝ }
+fn family_rest(s: &[u8], kind: Kind) -> Seen
+    ensures { λ r. ⌜ Answers (now (s .entry)) (shift 14 (familyRest kind .verdict (drop 14 (now (s .entry))))) (readingOf (now (s .entry)) r) ⌝ }
 {
     if block_length(kind) == 0 {
         skipped(s, kind)
@@ -128,8 +120,8 @@ fn family_rest(s: &[u8], kind: Kind) -> Reading
 }
 
 // From byte 13 on, under PROXY.
-fn proxy(s: &[u8]) -> Reading
-    ensures { λ r. ⌜ Answers (now (s .entry)) (shift 13 ((familyField then familyRest) .verdict (drop 13 (now (s .entry))))) r ⌝ }
+fn proxy(s: &[u8]) -> Seen
+    ensures { λ r. ⌜ Answers (now (s .entry)) (shift 13 ((familyField then familyRest) .verdict (drop 13 (now (s .entry))))) (readingOf (now (s .entry)) r) ⌝ }
 {
     if s.len() <= 13 {
         return more();
@@ -141,8 +133,8 @@ fn proxy(s: &[u8]) -> Reading
 }
 
 // From byte 12 on; under LOCAL byte 13 is not looked at.
-fn command(s: &[u8]) -> Reading
-    ensures { λ r. ⌜ Answers (now (s .entry)) (shift 12 ((commandField then commandRest) .verdict (drop 12 (now (s .entry))))) r ⌝ }
+fn command(s: &[u8]) -> Seen
+    ensures { λ r. ⌜ Answers (now (s .entry)) (shift 12 ((commandField then commandRest) .verdict (drop 12 (now (s .entry))))) (readingOf (now (s .entry)) r) ⌝ }
 {
     if s.len() <= 12 {
         return more();
@@ -155,8 +147,8 @@ fn command(s: &[u8]) -> Reading
 }
 
 // Whether s begins with a version 2 header; nothing behind the header is looked at.
-pub fn block(s: &[u8]) -> Reading
-    ensures { λ r. ⌜ Answers (now (s .entry)) (blockField .verdict (now (s .entry))) r ⌝ }
+pub fn block(s: &[u8]) -> Seen
+    ensures { λ r. ⌜ Answers (now (s .entry)) (blockField .verdict (now (s .entry))) (readingOf (now (s .entry)) r) ⌝ }
 {
     match literal(s, b"\r\n\r\n\0\r\nQUIT\n") {
         Scan::More => more(),

@@ -8,26 +8,32 @@ use store::kind_of;
 ghost use mathlib.Core.Path.{_≡_};
 ghost use Prim.Native.Nat.{_+_, _*_, _≤_};
 ghost use lib.ListN.{length, take, drop};
+ghost use Rattle.record.specs.Records.{held, recordOf};
+ghost use Rattle.record.specs.Placed.{placed};
 ghost use Rattle.capi.specs.Interface.{connectionBytes, over};
 ghost use Rattle.capi.specs.WriteInterface.{givenRecord, request as requestOf};
+
+// Puts an address, and zeros behind it up to 108 bytes, at this place of the output.
+fn put_address(address: &[u8], out: &mut [u8], at: usize)
+    requires { ⌜ (length (now address) ≤ 108) × (at + 108 ≤ length (now out)) ⌝ }
+    ensures { λ _. ⌜ now (out .exit) ≡ placed (held (now (address .entry))) at (now (out .entry)) ⌝ }
+{
+    let zeros = [0u8; 108];
+    record::put(&zeros, out, at);
+    record::put(address, out, at);
+}
 
 // Puts a connection's parts at the front of the output.
 pub(crate) fn put_connection(
     kind: Kind,
-    source: [u8; 108],
-    destination: [u8; 108],
+    source: &[u8],
+    destination: &[u8],
     source_port: u16,
     destination_port: u16,
     out: &mut [u8],
 )
-    requires { ⌜ 221 ≤ length (now out) ⌝ }
-    ensures { λ _. ⌜ now (out .exit) ≡ over (connectionBytes (record {
-      kind = kind;
-      source = source;
-      destination = destination;
-      «source_port» = «source_port»;
-      «destination_port» = «destination_port»;
-    })) (now (out .entry)) ⌝ }
+    requires { ⌜ (length (now source) ≤ 108) × (length (now destination) ≤ 108) × (221 ≤ length (now out)) ⌝ }
+    ensures { λ _. ⌜ now (out .exit) ≡ over (connectionBytes (recordOf kind (now (source .entry)) (now (destination .entry)) «source_port» «destination_port»)) (now (out .entry)) ⌝ }
 {
     let code = [code_of(kind)];
     let from = [(source_port / 256) as u8, (source_port % 256) as u8];
@@ -36,10 +42,28 @@ pub(crate) fn put_connection(
         (destination_port % 256) as u8,
     ];
     record::put(&code, out, 0);
-    record::put(&source, out, 1);
-    record::put(&destination, out, 109);
+    put_address(source, out, 1);
+    put_address(destination, out, 109);
     record::put(&from, out, 217);
     record::put(&to, out, 219);
+}
+
+// Puts a record's connection at the front of the output.
+pub(crate) fn put_record(caller: Record, out: &mut [u8])
+    requires { ⌜ 221 ≤ length (now out) ⌝ }
+    ensures { λ _. ⌜ now (out .exit) ≡ over (connectionBytes caller) (now (out .entry)) ⌝ }
+{
+    let kind = caller.kind;
+    let source = caller.source;
+    let destination = caller.destination;
+    put_connection(
+        kind,
+        &source,
+        &destination,
+        caller.source_port,
+        caller.destination_port,
+        out,
+    );
 }
 
 // The address at a place of a connection.

@@ -1,5 +1,5 @@
 // The stored form, for C callers.
-use crate::connection::put_connection;
+use crate::connection::put_record;
 use crate::connection::request;
 use crate::write::tell_written;
 use store::Flaw;
@@ -60,16 +60,6 @@ pub extern "C" fn dawnhawse_load(stored: &[u8], connection: &mut [u8]) -> u32
     let loaded = store::load(stored);
     let outcome = loaded.outcome;
     let caller = loaded.record;
-    let source = caller.source;
-    let destination = caller.destination;
-    let kind = caller.kind;
-    put_connection(
-        kind,
-        source,
-        destination,
-        caller.source_port,
-        caller.destination_port,
-        connection,
-    );
+    put_record(caller, connection);
     outcome_number(outcome)
 }

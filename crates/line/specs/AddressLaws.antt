@@ -1,10 +1,10 @@
 -- For proofs. The bytes of an address that the code gathers are those that its field says.
-use mathlib.Core.Path.{_≡_, refl, sym, ap, ap₂, _∙_, subst}
+use mathlib.Core.Path.{_≡_, refl, sym, ap, _∙_, subst}
 use mathlib.Core.Bool.{Bool}
 use mathlib.Core.List.{List, [], _∷_}
 use Prim.Native.Nat.{ℕ, _+_, _-_, _/_, _%_}
 use native.Mathlib.Omega.{arith}
-use lib.ListN.{length, getD, take, drop}
+use lib.ListN.{length, getD, set, take, drop}
 use Rattle.exact.specs.Claim.{Verdict, accepted}
 use Rattle.exact.specs.Field.{Exact, after}
 use Rattle.exact.specs.declared.Scan.{Scan}
@@ -12,12 +12,9 @@ use Rattle.exact.specs.declared.Scan.the-variants.{Accepted, More, Refused}
 use Rattle.exact.specs.Parser.{tail-all}
 use Rattle.exact.specs.Told.{heard}
 use Rattle.ip6.specs.Bounds.{address-bounds}
-use Rattle.record.specs.declared.Record.{Record}
-use Rattle.record.specs.Records.{held, recordOf}
 use Rattle.header.specs.Line.{groupBytes}
 use Rattle.header.specs.Exactness.{address4, groups, address6}
-use Rattle.line.specs.Families.{toldBytes, toldFound, kindOf, width, field}
-use Rattle.line.specs.declared.address.Found.{Found}
+use Rattle.line.specs.Families.{toldBytes, width, field}
 
 -- an accepted IPv4 address has four octets
 octets-four : (s octets : List ℕ) (n : ℕ) → accepted octets n ≡ address4 .verdict s → length octets ≡ 4
@@ -25,24 +22,27 @@ octets-four s octets n e =
     let x : Exact (address4 .field) (accepted octets n) s = subst (λ (v : Verdict (List ℕ)). Exact (address4 .field) v s) (sym e) (address4 .exact s) in
     ap length (x .whole .whole .value)
 
-four : (o : List ℕ) → length o ≡ 4 → getD o 0 0 ∷ getD o 1 0 ∷ getD o 2 0 ∷ getD o 3 0 ∷ [] ≡ o
-four [] h = absurd (omega arith)
-four (a ∷ []) h = absurd (omega arith)
-four (a ∷ b ∷ []) h = absurd (omega arith)
-four (a ∷ b ∷ c ∷ []) h = absurd (omega arith)
-four (a ∷ b ∷ c ∷ d ∷ []) h = refl
-four (a ∷ b ∷ c ∷ d ∷ e ∷ o) h = absurd (omega arith)
+-- its octets, stored at the front of sixteen bytes
+abbrev pub stored : List ℕ → List ℕ → List ℕ
+stored b o = set (set (set (set b 0 (getD o 0 0)) 1 (getD o 1 0)) 2 (getD o 2 0)) 3 (getD o 3 0)
 
--- the four octets at the front of sixteen bytes
-abbrev pub padded : List ℕ → List ℕ
-padded o =
-    getD o 0 0 ∷ getD o 1 0 ∷ getD o 2 0 ∷ getD o 3 0 ∷ 0 ∷ 0 ∷ 0 ∷ 0 ∷ 0 ∷ 0 ∷ 0 ∷ 0 ∷ 0 ∷ 0 ∷ 0 ∷ 0 ∷ []
+four : (b o : List ℕ) → length b ≡ 16 → length o ≡ 4 → take 4 (stored b o) ≡ o
+four b [] k h = absurd (omega arith)
+four b (x ∷ []) k h = absurd (omega arith)
+four b (x ∷ y ∷ []) k h = absurd (omega arith)
+four b (x ∷ y ∷ z ∷ []) k h = absurd (omega arith)
+four [] (x ∷ y ∷ z ∷ w ∷ []) k h = absurd (omega arith)
+four (p ∷ []) (x ∷ y ∷ z ∷ w ∷ []) k h = absurd (omega arith)
+four (p ∷ q ∷ []) (x ∷ y ∷ z ∷ w ∷ []) k h = absurd (omega arith)
+four (p ∷ q ∷ r ∷ []) (x ∷ y ∷ z ∷ w ∷ []) k h = absurd (omega arith)
+four (p ∷ q ∷ r ∷ s ∷ b) (x ∷ y ∷ z ∷ w ∷ []) k h = refl
+four b (x ∷ y ∷ z ∷ w ∷ v ∷ o) k h = absurd (omega arith)
 
-pub told4 : (scan : Scan) (octets s : List ℕ) → heard 3 scan octets ≡ address4 .verdict s
-    → toldFound 4 (record { scan = scan; bytes = padded octets }) ≡ address4 .verdict s
-told4 (Accepted v n) octets s e = ap (λ (o : List ℕ). accepted o n) (four octets (octets-four s octets n e)) ∙ e
-told4 More octets s e = e
-told4 (Refused p) octets s e = e
+pub told4 : (scan : Scan) (b octets s : List ℕ) → length b ≡ 16 → heard 3 scan octets ≡ address4 .verdict s
+    → toldBytes 4 scan (stored b octets) ≡ address4 .verdict s
+told4 (Accepted v n) b octets s k e = ap (λ (o : List ℕ). accepted o n) (four b octets k (octets-four s octets n e)) ∙ e
+told4 More b octets s k e = e
+told4 (Refused p) b octets s k e = e
 
 -- an accepted IPv6 address has eight groups
 groups-eight : (s gs : List ℕ) (n : ℕ) → accepted gs n ≡ groups .verdict s → length gs ≡ 8
@@ -76,7 +76,7 @@ take-sixteen : (g : List ℕ) → length g ≡ 8 → take 16 (groupBytes g) ≡ 
 take-sixteen g h = ap (take 16) (sym (eight g h)) ∙ eight g h
 
 pub told6 : (scan : Scan) (gs s : List ℕ) → heard 3 scan gs ≡ groups .verdict s
-    → toldFound 16 (record { scan = scan; bytes = groupBytes gs }) ≡ address6 .verdict s
+    → toldBytes 16 scan (groupBytes gs) ≡ address6 .verdict s
 told6 (Accepted v n) gs s e =
     ap (λ (b : List ℕ). accepted b n) (take-sixteen gs (groups-eight s gs n e))
     ∙ ap (λ (m : ℕ). accepted (groupBytes gs) m) zero-more
@@ -87,20 +87,8 @@ told6 (Accepted v n) gs s e =
 told6 More gs s e = ap (λ (w : Verdict (List ℕ)). after w (λ a r. accepted (groupBytes a) 0) s) e
 told6 (Refused p) gs s e = ap (λ (w : Verdict (List ℕ)). after w (λ a r. accepted (groupBytes a) 0) s) e
 
--- the family that a test found
-pub found-at : (six b : Bool) (r : Found) (s : List ℕ) → six ≡ b → toldFound (width b) r ≡ field b .verdict s
-    → toldFound (width six) r ≡ field six .verdict s
-found-at six b r s e h = subst (λ (x : Bool). toldFound (width x) r ≡ field x .verdict s) (sym e) h
-
-pub tcp-same : (six b : Bool) → six ≡ b → (from to : List ℕ) {x y : List ℕ} (p q : ℕ) → x ≡ held (take (width b) from) → y ≡ held (take (width b) to)
-    → _≡_ {A = Record} (record { kind = kindOf b; source = x; destination = y; «source_port» = p; «destination_port» = q })
-    (recordOf (kindOf six) (take (width six) from) (take (width six) to) p q)
-tcp-same six b e from to p q ex ey =
-    ap₂ (λ (x y : List ℕ). record { kind = kindOf b; source = x; destination = y; «source_port» = p; «destination_port» = q }) ex ey
-    ∙ ap (λ (s : Bool). recordOf (kindOf s) (take (width s) from) (take (width s) to) p q) (sym e)
-
 -- what a scan of the address from `at` on found, as a verdict on it
-pub said-found : (six : Bool) (s : List ℕ) (at : ℕ) (r : Found) {x : Scan} → r .scan ≡ x
-    → toldFound (width six) r ≡ field six .verdict (take (length s - at) (drop at s)) → toldBytes (width six) x r ≡ field six .verdict (drop at s)
-said-found six s at r e h =
-    ap (λ (y : Scan). toldBytes (width six) y r) (sym e) ∙ h ∙ ap (λ (t : List ℕ). field six .verdict t) (tail-all at s)
+pub said-found : (six : Bool) (s : List ℕ) (at : ℕ) (bytes : List ℕ) {r x : Scan} → r ≡ x
+    → toldBytes (width six) r bytes ≡ field six .verdict (take (length s - at) (drop at s)) → toldBytes (width six) x bytes ≡ field six .verdict (drop at s)
+said-found six s at bytes e h =
+    ap (λ (y : Scan). toldBytes (width six) y bytes) (sym e) ∙ h ∙ ap (λ (t : List ℕ). field six .verdict t) (tail-all at s)

@@ -7,7 +7,8 @@ use native.Mathlib.Omega.{arith}
 use native.Mathlib.Numerals.{add-one, one-add}
 use lib.ListN.{length, drop, getD, drop-of-length-le}
 use lib.Seq.{drop-cons}
-use borrow.Author.Tests.{eq-eqb, ne-eqb}
+use borrow.Author.Tests.{eq-eqb, ne-eqb, eqb-true, eqb-false}
+use lib.Dec.{eqb}
 use Rattle.exact.specs.Claim.{Verdict, accepted, more, refused, AllBytes}
 use Rattle.exact.specs.Field.{shift, after}
 use Rattle.exact.specs.Machine.{shift-shift}
@@ -24,6 +25,10 @@ use Rattle.line.specs.Families.{kindOf, field}
 
 abbrev pub fromSpace : Bool → Parser Header
 fromSpace six = spaceField then λ u. fromSource (kindOf six) (field six)
+
+-- the byte behind "TCP" is 4 or 6
+abbrev pub isFamily : ℕ → Bool
+isFamily c = pick (eqb c 52) true (eqb c 54)
 
 abbrev pub families : Parser Header
 families = either is4 (tcp4 address4 address6) (tcp6 address4 address6) (starts4 address4 address6) (starts6 address4 address6)
@@ -108,23 +113,38 @@ module _ (s : List ℕ) (at : ℕ) (inside : at < length s) where
   six = tcp6 address4 address6
 
   -- behind "TCP"
-  pub family-four : getD s at 0 ≡ 52 → shift (at + 1) (fromSpace false .verdict (drop (at + 1) s)) ≡ shift at (families .verdict (drop at s))
+  family-four : getD s at 0 ≡ 52 → shift (at + 1) (fromSpace false .verdict (drop (at + 1) s)) ≡ shift at (families .verdict (drop at s))
   family-four e =
       byte-first s at inside 52 (four .verdict) (fromSpace false .verdict) e
       (λ t. word-first 2 52 32 [] (λ u. fromSource (kindOf false) (field false)) t (omega arith) (omega arith))
       ∙ choice-by s at inside is4 (four .verdict) (six .verdict) true (ap is4 e)
 
-  pub family-six : getD s at 0 ≡ 54 → shift (at + 1) (fromSpace true .verdict (drop (at + 1) s)) ≡ shift at (families .verdict (drop at s))
+  family-six : getD s at 0 ≡ 54 → shift (at + 1) (fromSpace true .verdict (drop (at + 1) s)) ≡ shift at (families .verdict (drop at s))
   family-six e =
       byte-first s at inside 54 (six .verdict) (fromSpace true .verdict) e
       (λ t. word-first 2 54 32 [] (λ u. fromSource (kindOf true) (field true)) t (omega arith) (omega arith))
       ∙ choice-by s at inside is4 (four .verdict) (six .verdict) false (ap is4 e)
 
-  pub family-other : (getD s at 0 ≡ 52 → ⊥) → (getD s at 0 ≡ 54 → ⊥) → refused 2 at ≡ shift at (families .verdict (drop at s))
-  family-other n m =
-      byte-other s at inside 2 (six .verdict)
-      (word-other 2 54 (32 ∷ []) (λ u. fromSource (kindOf true) (field true)) (getD s at 0) (drop (at + 1) s) (omega arith) m)
-      ∙ choice-by s at inside is4 (four .verdict) (six .verdict) false (ne-eqb (getD s at 0) 52 n)
+  pub family-known : isFamily (getD s at 0) ≡ true
+      → shift (at + 1) (fromSpace (eqb (getD s at 0) 54) .verdict (drop (at + 1) s)) ≡ shift at (families .verdict (drop at s))
+  family-known h = by (eqb (getD s at 0) 52) refl h
+    where
+      said : ℕ → Verdict Header
+      said c = shift (at + 1) (fromSpace (eqb c 54) .verdict (drop (at + 1) s))
+
+      by : (b : Bool) → eqb (getD s at 0) 52 ≡ b → pick b true (eqb (getD s at 0) 54) ≡ true → said (getD s at 0) ≡ shift at (families .verdict (drop at s))
+      by true e h = let is = eqb-true (getD s at 0) 52 e in ap said is ∙ family-four is
+      by false e h = let is = eqb-true (getD s at 0) 54 h in ap said is ∙ family-six is
+
+  pub family-other : isFamily (getD s at 0) ≡ false → refused 2 at ≡ shift at (families .verdict (drop at s))
+  family-other h = by (eqb (getD s at 0) 52) refl h
+    where
+      by : (b : Bool) → eqb (getD s at 0) 52 ≡ b → pick b true (eqb (getD s at 0) 54) ≡ false → refused 2 at ≡ shift at (families .verdict (drop at s))
+      by true e h = let z : _≡_ {A = ℕ} 0 1 = cc in absurd (omega arith)
+      by false e h =
+          byte-other s at inside 2 (six .verdict)
+          (word-other 2 54 (32 ∷ []) (λ u. fromSource (kindOf true) (field true)) (getD s at 0) (drop (at + 1) s) (omega arith) (eqb-false (getD s at 0) 54 h))
+          ∙ choice-by s at inside is4 (four .verdict) (six .verdict) false e
 
   -- behind "UNKNOWN"
   pub end-cr : getD s at 0 ≡ 13 → shift (at + 1) (lineFeed (lined (bare Unspecified)) .verdict (drop (at + 1) s)) ≡ shift at (unknownEnd .verdict (drop at s))

@@ -10,26 +10,22 @@ use Rattle.exact.specs.declared.Scan.the-variants.{Accepted, More, Refused}
 use Rattle.record.specs.declared.Transport.the-variants.{Stream}
 use Rattle.record.specs.declared.Kind.{Kind}
 use Rattle.record.specs.declared.Kind.the-variants.{Ip4, Ip6}
+use Rattle.record.specs.Kinds.{addressLength}
 use Rattle.header.specs.Exactness.{address4, address6}
-use Rattle.line.specs.declared.address.Found.{Found}
 
 abbrev pub kindOf : Bool → Kind
 kindOf true = Ip6 Stream
 kindOf false = Ip4 Stream
 
 abbrev pub width : Bool → ℕ
-width true = 16
-width false = 4
+width six = addressLength (kindOf six)
 
 abbrev pub field : Bool → Parser (List ℕ)
 field true = address6
 field false = address4
 
--- the bytes of an address, in the first n of its array
-abbrev pub toldBytes : ℕ → Scan → Found → Verdict (List ℕ)
-toldBytes n (Accepted v size) r = accepted (take n (r .bytes)) size
-toldBytes n More r = more
-toldBytes n (Refused p) r = refused 3 p
-
-abbrev pub toldFound : ℕ → Found → Verdict (List ℕ)
-toldFound n r = toldBytes n (r .scan) r
+-- the bytes of an address, in the first n of an array
+abbrev pub toldBytes : ℕ → Scan → List ℕ → Verdict (List ℕ)
+toldBytes n (Accepted v size) bytes = accepted (take n bytes) size
+toldBytes n More bytes = more
+toldBytes n (Refused p) bytes = refused 3 p

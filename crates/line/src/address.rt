@@ -2,15 +2,10 @@
 use exact::Scan;
 ghost use mathlib.Core.Path.{_≡_};
 ghost use Prim.Native.Nat.{_/_, _%_};
+ghost use lib.ListN.{length};
 ghost use Rattle.header.specs.Line.{groupBytes};
 ghost use Rattle.header.specs.Exactness.{address4 as fieldOf4, address6 as fieldOf6};
-ghost use Rattle.line.specs.Families.{toldFound, width, field};
-
-// What a scan of an address finds, and the address, at the front of its array.
-pub struct Found {
-    pub scan: Scan,
-    pub bytes: [u8; 16],
-}
+ghost use Rattle.line.specs.Families.{toldBytes, width, field};
 
 // The high byte of a group.
 fn high(group: u16) -> u8
@@ -50,50 +45,39 @@ fn group_bytes(groups: [u16; 8]) -> [u8; 16]
     ]
 }
 
-fn address4(s: &[u8]) -> Found
-    ensures { λ r. ⌜ toldFound 4 r ≡ fieldOf4 .verdict (now (s .entry)) ⌝ }
+// The octets of an IPv4 address, in the first 4 of the bytes. Behind a reference the proof knows an array's length only where it is asked.
+fn address4(s: &[u8], bytes: &mut [u8; 16]) -> Scan
+    requires { ⌜ length (now bytes) ≡ 16 ⌝ }
+    ensures { λ r. ⌜ toldBytes 4 r (now (bytes .exit)) ≡ fieldOf4 .verdict (now (s .entry)) ⌝ }
 {
     let found = text::ip4(s, b' ');
     let scan = found.scan;
     let octets = found.octets;
-    Found {
-        scan,
-        bytes: [
-            octets[0],
-            octets[1],
-            octets[2],
-            octets[3],
-            0,
-            0,
-            0,
-            0,
-            0,
-            0,
-            0,
-            0,
-            0,
-            0,
-            0,
-            0,
-        ],
-    }
+    bytes[0] = octets[0];
+    bytes[1] = octets[1];
+    bytes[2] = octets[2];
+    bytes[3] = octets[3];
+    scan
 }
 
-fn address6(s: &[u8]) -> Found
-    ensures { λ r. ⌜ toldFound 16 r ≡ fieldOf6 .verdict (now (s .entry)) ⌝ }
+fn address6(s: &[u8], bytes: &mut [u8; 16]) -> Scan
+    ensures { λ r. ⌜ toldBytes 16 r (now (bytes .exit)) ≡ fieldOf6 .verdict (now (s .entry)) ⌝ }
 {
     let found = ip6::address(s, b' ');
     let scan = found.scan;
     let groups = found.groups;
-    Found {
-        scan,
-        bytes: group_bytes(groups),
-    }
+    *bytes = group_bytes(groups);
+    scan
 }
 
-// The address of a TCP6 line if six, else of a TCP4 line.
-pub fn address(s: &[u8], six: bool) -> Found
-    ensures { λ r. ⌜ toldFound (width six) r ≡ field six .verdict (now (s .entry)) ⌝ }
+// The address of a TCP6 line if six, else of a TCP4 line, at the front of the bytes where it is accepted.
+pub(crate) fn address(s: &[u8], six: bool, bytes: &mut [u8; 16]) -> Scan
+    requires { ⌜ length (now bytes) ≡ 16 ⌝ }
+    ensures { λ r. ⌜ toldBytes (width six) r (now (bytes .exit)) ≡ field six .verdict (now (s .entry)) ⌝ }
 {
-    if six { address6(s) } else { address4(s) }
+    if six {
+        address6(s, bytes)
+    } else {
+        address4(s, bytes)
+    }
 }

@@ -2,79 +2,53 @@
 mod address;
 
 use address::address;
-use answer::Reading;
+use answer::Caller;
 use answer::Refusal;
+use answer::Seen;
 use answer::Verdict;
-use answer::blank;
 use answer::more;
+use answer::of_kind;
 use answer::refused;
 use exact::Scan;
 use exact::literal;
 use record::Kind;
-use record::Record;
 use record::Transport;
 ghost use mathlib.Core.Path.{_≡_};
 ghost use Prim.Native.Nat.{_≤_};
 ghost use lib.ListN.{length, drop, take};
 ghost use Rattle.exact.specs.Field.{shift};
-ghost use Rattle.record.specs.Records.{held as heldOf, recordOf};
 ghost use Rattle.header.specs.LineFields.{lined, lineFeed, fromDestinationPort, fromSourcePort, fromDestination, fromSource, tcps, unknownEnd, unknown};
 ghost use Rattle.header.specs.Exactness.{address4, address6, lineField};
 ghost use Rattle.answer.specs.Answers.{Answers};
+ghost use Rattle.answer.specs.Sight.{callerRecord, readingOf};
 ghost use Rattle.line.specs.Families.{kindOf, width, field};
-ghost use Rattle.line.specs.Choices.{fromSpace, families, fromRest, words};
+ghost use Rattle.line.specs.Choices.{fromSpace, isFamily, families, fromRest, words};
 
-// The first n bytes of an address, as a record holds them.
-fn held(address: [u8; 16], n: usize) -> [u8; 108]
-    requires { ⌜ n ≤ 16 ⌝ }
-    ensures { λ r. ⌜ r ≡ heldOf (take n address) ⌝ }
-{
-    let mut bytes = [0u8; 108];
-    let mut i: usize = 0;
-    while i < n {
-        bytes[i] = address[i];
-        i += 1;
-    }
-    bytes
-}
-
-// The record of a TCP6 line if six, else of a TCP4 line.
-fn tcp_record(six: bool, from: [u8; 16], to: [u8; 16], p: u16, q: u16) -> Record
-    ensures { λ r. ⌜ r ≡ recordOf (kindOf six) (take (width six) from) (take (width six) to) p q ⌝ }
+// TCP6 if six, else TCP4.
+fn kind_of(six: bool) -> Kind
+    ensures { λ r. ⌜ r ≡ kindOf six ⌝ }
 {
     if six {
-        Record {
-            kind: Kind::Ip6(Transport::Stream),
-            source: held(from, 16),
-            destination: held(to, 16),
-            source_port: p,
-            destination_port: q,
-        }
+        Kind::Ip6(Transport::Stream)
     } else {
-        Record {
-            kind: Kind::Ip4(Transport::Stream),
-            source: held(from, 4),
-            destination: held(to, 4),
-            source_port: p,
-            destination_port: q,
-        }
+        Kind::Ip4(Transport::Stream)
     }
 }
 
 // The LF that ends the line.
-fn line_feed(s: &[u8], at: usize, connection: Record) -> Reading
+fn line_feed(s: &[u8], at: usize, caller: Caller) -> Seen
     requires { ⌜ at ≤ length (now s) ⌝ }
-    ensures { λ r. ⌜ Answers (now (s .entry)) (shift at (lineFeed (lined connection) .verdict (drop at (now (s .entry))))) r ⌝ }
+    ensures { λ r. ⌜ Answers (now (s .entry)) (shift at (lineFeed (lined (callerRecord caller)) .verdict (drop at (now (s .entry))))) (readingOf (now (s .entry)) r) ⌝ }
 {
     match literal(&s[at..], b"\n") {
         Scan::More => more(),
         Scan::Refused(place) => refused(Refusal::End, at + place),
-        Scan::Accepted(_, n) => Reading {
+        Scan::Accepted(_, n) => Seen {
             verdict: Verdict::Accepted {
                 length: at + n,
                 version: 1,
             },
-            record: connection,
+            caller,
         },
     }
 }
@@ -86,20 +60,29 @@ fn from_destination_port(
     from: [u8; 16],
     to: [u8; 16],
     p: u16,
-) -> Reading
+) -> Seen
     requires { ⌜ at ≤ length (now s) ⌝ }
-    ensures { λ r. ⌜ Answers (now (s .entry)) (shift at (fromDestinationPort (kindOf six) (take (width six) from) (take (width six) to) p .verdict (drop at (now (s .entry))))) r ⌝ }
+    ensures { λ r. ⌜ Answers (now (s .entry)) (shift at (fromDestinationPort (kindOf six) (take (width six) from) (take (width six) to) p .verdict (drop at (now (s .entry))))) (readingOf (now (s .entry)) r) ⌝ }
 {
     match text::decimal(&s[at..], 65535, b'\r') {
         Scan::More => more(),
         Scan::Refused(place) => refused(Refusal::Port, at + place),
-        Scan::Accepted(q, n) => line_feed(s, at + n, tcp_record(six, from, to, p, q as u16)),
+        Scan::Accepted(q, n) => {
+            let caller = Caller {
+                kind: kind_of(six),
+                source: from,
+                destination: to,
+                source_port: p,
+                destination_port: q as u16,
+            };
+            line_feed(s, at + n, caller)
+        }
     }
 }
 
-fn from_source_port(s: &[u8], at: usize, six: bool, from: [u8; 16], to: [u8; 16]) -> Reading
+fn from_source_port(s: &[u8], at: usize, six: bool, from: [u8; 16], to: [u8; 16]) -> Seen
     requires { ⌜ at ≤ length (now s) ⌝ }
-    ensures { λ r. ⌜ Answers (now (s .entry)) (shift at (fromSourcePort (kindOf six) (take (width six) from) (take (width six) to) .verdict (drop at (now (s .entry))))) r ⌝ }
+    ensures { λ r. ⌜ Answers (now (s .entry)) (shift at (fromSourcePort (kindOf six) (take (width six) from) (take (width six) to) .verdict (drop at (now (s .entry))))) (readingOf (now (s .entry)) r) ⌝ }
 {
     match text::decimal(&s[at..], 65535, b' ') {
         Scan::More => more(),
@@ -108,28 +91,24 @@ fn from_source_port(s: &[u8], at: usize, six: bool, from: [u8; 16], to: [u8; 16]
     }
 }
 
-fn from_destination(s: &[u8], at: usize, six: bool, from: [u8; 16]) -> Reading
+fn from_destination(s: &[u8], at: usize, six: bool, from: [u8; 16]) -> Seen
     requires { ⌜ at ≤ length (now s) ⌝ }
-    ensures { λ r. ⌜ Answers (now (s .entry)) (shift at (fromDestination (kindOf six) (field six) (take (width six) from) .verdict (drop at (now (s .entry))))) r ⌝ }
+    ensures { λ r. ⌜ Answers (now (s .entry)) (shift at (fromDestination (kindOf six) (field six) (take (width six) from) .verdict (drop at (now (s .entry))))) (readingOf (now (s .entry)) r) ⌝ }
 {
-    let found = address(&s[at..], six);
-    let scan = found.scan;
-    let to = found.bytes;
-    match scan {
+    let mut to = [0u8; 16];
+    match address(&s[at..], six, &mut to) {
         Scan::More => more(),
         Scan::Refused(place) => refused(Refusal::Address, at + place),
         Scan::Accepted(_, n) => from_source_port(s, at + n, six, from, to),
     }
 }
 
-fn from_source(s: &[u8], at: usize, six: bool) -> Reading
+fn from_source(s: &[u8], at: usize, six: bool) -> Seen
     requires { ⌜ at ≤ length (now s) ⌝ }
-    ensures { λ r. ⌜ Answers (now (s .entry)) (shift at (fromSource (kindOf six) (field six) .verdict (drop at (now (s .entry))))) r ⌝ }
+    ensures { λ r. ⌜ Answers (now (s .entry)) (shift at (fromSource (kindOf six) (field six) .verdict (drop at (now (s .entry))))) (readingOf (now (s .entry)) r) ⌝ }
 {
-    let found = address(&s[at..], six);
-    let scan = found.scan;
-    let from = found.bytes;
-    match scan {
+    let mut from = [0u8; 16];
+    match address(&s[at..], six, &mut from) {
         Scan::More => more(),
         Scan::Refused(place) => refused(Refusal::Address, at + place),
         Scan::Accepted(_, n) => from_destination(s, at + n, six, from),
@@ -137,9 +116,9 @@ fn from_source(s: &[u8], at: usize, six: bool) -> Reading
 }
 
 // The space behind the word.
-fn from_space(s: &[u8], at: usize, six: bool) -> Reading
+fn from_space(s: &[u8], at: usize, six: bool) -> Seen
     requires { ⌜ at ≤ length (now s) ⌝ }
-    ensures { λ r. ⌜ Answers (now (s .entry)) (shift at (fromSpace six .verdict (drop at (now (s .entry))))) r ⌝ }
+    ensures { λ r. ⌜ Answers (now (s .entry)) (shift at (fromSpace six .verdict (drop at (now (s .entry))))) (readingOf (now (s .entry)) r) ⌝ }
 {
     match literal(&s[at..], b" ") {
         Scan::More => more(),
@@ -148,27 +127,30 @@ fn from_space(s: &[u8], at: usize, six: bool) -> Reading
     }
 }
 
+fn is_family(c: u8) -> bool
+    ensures { λ r. ⌜ r ≡ isFamily c ⌝ }
+{
+    if c == b'4' { true } else { c == b'6' }
+}
+
 // Behind "TCP": 4 or 6.
-fn from_family(s: &[u8], at: usize) -> Reading
+fn from_family(s: &[u8], at: usize) -> Seen
     requires { ⌜ at ≤ length (now s) ⌝ }
-    ensures { λ r. ⌜ Answers (now (s .entry)) (shift at (families .verdict (drop at (now (s .entry))))) r ⌝ }
+    ensures { λ r. ⌜ Answers (now (s .entry)) (shift at (families .verdict (drop at (now (s .entry))))) (readingOf (now (s .entry)) r) ⌝ }
 {
     if s.len() <= at {
         return more();
     }
     let c = s[at];
-    if c == b'4' {
-        from_space(s, at + 1, false)
-    } else if c == b'6' {
-        from_space(s, at + 1, true)
-    } else {
-        refused(Refusal::Word, at)
+    if !is_family(c) {
+        return refused(Refusal::Word, at);
     }
+    from_space(s, at + 1, c == b'6')
 }
 
-fn from_tcp(s: &[u8], at: usize) -> Reading
+fn from_tcp(s: &[u8], at: usize) -> Seen
     requires { ⌜ at ≤ length (now s) ⌝ }
-    ensures { λ r. ⌜ Answers (now (s .entry)) (shift at (tcps address4 address6 .verdict (drop at (now (s .entry))))) r ⌝ }
+    ensures { λ r. ⌜ Answers (now (s .entry)) (shift at (tcps address4 address6 .verdict (drop at (now (s .entry))))) (readingOf (now (s .entry)) r) ⌝ }
 {
     match literal(&s[at..], b"TCP") {
         Scan::More => more(),
@@ -178,34 +160,34 @@ fn from_tcp(s: &[u8], at: usize) -> Reading
 }
 
 // Behind "PROXY UNKNOWN ": 14 of the line's 107 bytes have come.
-fn from_rest(s: &[u8], at: usize) -> Reading
+fn from_rest(s: &[u8], at: usize) -> Seen
     requires { ⌜ at ≤ length (now s) ⌝ }
-    ensures { λ r. ⌜ Answers (now (s .entry)) (shift at (fromRest .verdict (drop at (now (s .entry))))) r ⌝ }
+    ensures { λ r. ⌜ Answers (now (s .entry)) (shift at (fromRest .verdict (drop at (now (s .entry))))) (readingOf (now (s .entry)) r) ⌝ }
 {
     match text::line_end(&s[at..], 93) {
         Scan::More => more(),
         Scan::Refused(place) => refused(Refusal::End, at + place),
-        Scan::Accepted(_, n) => Reading {
+        Scan::Accepted(_, n) => Seen {
             verdict: Verdict::Accepted {
                 length: at + n,
                 version: 1,
             },
-            record: blank(Kind::Unspecified),
+            caller: of_kind(Kind::Unspecified),
         },
     }
 }
 
 // Behind "UNKNOWN": CR LF at once, or a space.
-fn from_unknown_end(s: &[u8], at: usize) -> Reading
+fn from_unknown_end(s: &[u8], at: usize) -> Seen
     requires { ⌜ at ≤ length (now s) ⌝ }
-    ensures { λ r. ⌜ Answers (now (s .entry)) (shift at (unknownEnd .verdict (drop at (now (s .entry))))) r ⌝ }
+    ensures { λ r. ⌜ Answers (now (s .entry)) (shift at (unknownEnd .verdict (drop at (now (s .entry))))) (readingOf (now (s .entry)) r) ⌝ }
 {
     if s.len() <= at {
         return more();
     }
     let c = s[at];
     if c == b'\r' {
-        line_feed(s, at + 1, blank(Kind::Unspecified))
+        line_feed(s, at + 1, of_kind(Kind::Unspecified))
     } else if c == b' ' {
         from_rest(s, at + 1)
     } else {
@@ -213,9 +195,9 @@ fn from_unknown_end(s: &[u8], at: usize) -> Reading
     }
 }
 
-fn from_unknown(s: &[u8], at: usize) -> Reading
+fn from_unknown(s: &[u8], at: usize) -> Seen
     requires { ⌜ at ≤ length (now s) ⌝ }
-    ensures { λ r. ⌜ Answers (now (s .entry)) (shift at (unknown .verdict (drop at (now (s .entry))))) r ⌝ }
+    ensures { λ r. ⌜ Answers (now (s .entry)) (shift at (unknown .verdict (drop at (now (s .entry))))) (readingOf (now (s .entry)) r) ⌝ }
 {
     match literal(&s[at..], b"UNKNOWN") {
         Scan::More => more(),
@@ -225,9 +207,9 @@ fn from_unknown(s: &[u8], at: usize) -> Reading
 }
 
 // Behind "PROXY ": the word.
-fn from_word(s: &[u8], at: usize) -> Reading
+fn from_word(s: &[u8], at: usize) -> Seen
     requires { ⌜ at ≤ length (now s) ⌝ }
-    ensures { λ r. ⌜ Answers (now (s .entry)) (shift at (words .verdict (drop at (now (s .entry))))) r ⌝ }
+    ensures { λ r. ⌜ Answers (now (s .entry)) (shift at (words .verdict (drop at (now (s .entry))))) (readingOf (now (s .entry)) r) ⌝ }
 {
     if s.len() <= at {
         return more();
@@ -240,8 +222,8 @@ fn from_word(s: &[u8], at: usize) -> Reading
 }
 
 // A version 1 line.
-pub fn line(s: &[u8]) -> Reading
-    ensures { λ r. ⌜ Answers (now (s .entry)) (lineField .verdict (now (s .entry))) r ⌝ }
+pub fn line(s: &[u8]) -> Seen
+    ensures { λ r. ⌜ Answers (now (s .entry)) (lineField .verdict (now (s .entry))) (readingOf (now (s .entry)) r) ⌝ }
 {
     match literal(s, b"PROXY ") {
         Scan::More => more(),

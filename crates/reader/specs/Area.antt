@@ -30,13 +30,10 @@ blockEnd (Ip6 t) = 16 + blockLength (Ip6 t)
 blockEnd (Unix t) = 16 + blockLength (Unix t)
 
 -- where the area ends, and where it starts, in size bytes read
-abbrev pub endBy : Verdict → Kind → ℕ → ℕ
-endBy (Accepted n v) kind size = pick (eqb v 2) (pick (eqb (blockEnd kind) 0) 0 (min n size)) 0
-endBy More kind size = 0
-endBy (Refused k p) kind size = 0
+abbrev pub areaEnd : Verdict → Kind → ℕ → ℕ
+areaEnd (Accepted n v) kind size = pick (eqb v 2) (pick (eqb (blockEnd kind) 0) 0 (min n size)) 0
+areaEnd More kind size = 0
+areaEnd (Refused k p) kind size = 0
 
-abbrev pub areaEnd : Reading → ℕ → ℕ
-areaEnd r size = endBy (r .verdict) (r .record .kind) size
-
-abbrev pub areaStart : Reading → ℕ → ℕ
-areaStart r size = min (blockEnd (r .record .kind)) (areaEnd r size)
+abbrev pub areaStart : Verdict → Kind → ℕ → ℕ
+areaStart v kind size = min (blockEnd kind) (areaEnd v kind size)

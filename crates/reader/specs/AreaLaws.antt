@@ -13,11 +13,10 @@ use Rattle.record.specs.declared.Kind.{Kind}
 use Rattle.record.specs.declared.Kind.the-variants.{Local, Unspecified, Ip4, Ip6, Unix}
 use Rattle.answer.specs.declared.Verdict.{Verdict}
 use Rattle.answer.specs.declared.Verdict.the-variants.{Accepted, More, Refused}
-use Rattle.answer.specs.declared.Reading.{Reading}
 use Rattle.answer.specs.Answers.{blockArea}
-use Rattle.reader.specs.Area.{areaBy, readArea, blockEnd, endBy, areaEnd, areaStart}
+use Rattle.reader.specs.Area.{areaBy, blockEnd, areaEnd, areaStart}
 
-end-within : (v : Verdict) (kind : Kind) (size : ℕ) → endBy v kind size ≤ size
+end-within : (v : Verdict) (kind : Kind) (size : ℕ) → areaEnd v kind size ≤ size
 end-within (Accepted n v) kind size = by (eqb v 2) (eqb (blockEnd kind) 0)
   where
     by : (b c : Bool) → pick b (pick c 0 (min n size)) 0 ≤ size
@@ -27,8 +26,8 @@ end-within (Accepted n v) kind size = by (eqb v 2) (eqb (blockEnd kind) 0)
 end-within More kind size = omega arith
 end-within (Refused k p) kind size = omega arith
 
-pub area-inside : (r : Reading) (size : ℕ) → (areaStart r size ≤ areaEnd r size) × (areaEnd r size ≤ size)
-area-inside r size = (omega arith, end-within (r .verdict) (r .record .kind) size)
+pub area-inside : (v : Verdict) (kind : Kind) (size : ℕ) → (areaStart v kind size ≤ areaEnd v kind size) × (areaEnd v kind size ≤ size)
+area-inside v kind size = (omega arith, end-within v kind size)
 
 -- a part from m to n, with both cut at the end of the bytes
 part : (s : List ℕ) (m n : ℕ) → take (min n (length s) - min m (min n (length s))) (drop (min m (min n (length s))) s) ≡ drop m (take n s)
@@ -57,32 +56,28 @@ accepted-part n true (Ip4 t) s = part s 28 n
 accepted-part n true (Ip6 t) s = part s 52 n
 accepted-part n true (Unix t) s = part s 232 n
 
-part-by : (v : Verdict) (kind : Kind) (s : List ℕ)
-    → take (endBy v kind (length s) - min (blockEnd kind) (endBy v kind (length s))) (drop (min (blockEnd kind) (endBy v kind (length s))) s) ≡ areaBy v kind s
-part-by (Accepted n v) kind s = accepted-part n (eqb v 2) kind s
-part-by More kind s = nothing s (blockEnd kind)
-part-by (Refused k p) kind s = nothing s (blockEnd kind)
-
-pub area-part : (r : Reading) (s : List ℕ) → take (areaEnd r (length s) - areaStart r (length s)) (drop (areaStart r (length s)) s) ≡ readArea r s
-area-part r s = part-by (r .verdict) (r .record .kind) s
+pub area-part : (v : Verdict) (kind : Kind) (s : List ℕ)
+    → take (areaEnd v kind (length s) - areaStart v kind (length s)) (drop (areaStart v kind (length s)) s) ≡ areaBy v kind s
+area-part (Accepted n v) kind s = accepted-part n (eqb v 2) kind s
+area-part More kind s = nothing s (blockEnd kind)
+area-part (Refused k p) kind s = nothing s (blockEnd kind)
 
 -- ── as the code finds them ──
-module _ (r : Reading) (size : ℕ) where
-  pub span-none : (v : Verdict) → r .verdict ≡ v → endBy v (r .record .kind) size ≡ 0 → (0 ≡ areaStart r size) × (0 ≡ areaEnd r size)
-  span-none v e z =
-      let end : areaEnd r size ≡ 0 = ap (λ (x : Verdict). endBy x (r .record .kind) size) e ∙ z in
-      (omega arith, sym end)
+module _ (v : Verdict) (kind : Kind) (size : ℕ) where
+  pub span-none : (w : Verdict) → v ≡ w → areaEnd w kind size ≡ 0 → (0 ≡ areaStart v kind size) × (0 ≡ areaEnd v kind size)
+  span-none w e z = let end : areaEnd v kind size ≡ 0 = ap (λ (x : Verdict). areaEnd x kind size) e ∙ z in (omega arith, sym end)
 
-  pub old-version : (n v : ℕ) → (v ≡ 2 → ⊥) → endBy (Accepted n v) (r .record .kind) size ≡ 0
-  old-version n v h = simp (ne-eqb v 2 h)
-
-  pub no-block : (n v : ℕ) → v ≡ 2 → blockEnd (r .record .kind) ≡ 0 → endBy (Accepted n v) (r .record .kind) size ≡ 0
-  no-block n v e z = simp (eq-eqb v 2 e, eq-eqb (blockEnd (r .record .kind)) 0 z)
-
-  pub span-some : (n v x y : ℕ) → r .verdict ≡ Accepted n v → v ≡ 2 → (blockEnd (r .record .kind) ≡ 0 → ⊥) → x ≡ min n size
-      → y ≡ min (blockEnd (r .record .kind)) x → (y ≡ areaStart r size) × (x ≡ areaEnd r size)
-  span-some n v x y e two some end start =
-      let here : areaEnd r size ≡ min n size =
-      ap (λ (w : Verdict). endBy w (r .record .kind) size) e ∙ simp (eq-eqb v 2 two, ne-eqb (blockEnd (r .record .kind)) 0 some)
+  pub span-some : (n x y z : ℕ) → v ≡ Accepted n x → x ≡ 2 → (blockEnd kind ≡ 0 → ⊥) → y ≡ min n size → z ≡ min (blockEnd kind) y
+      → (z ≡ areaStart v kind size) × (y ≡ areaEnd v kind size)
+  span-some n x y z e two some end start =
+      let here : areaEnd v kind size ≡ min n size =
+      ap (λ (w : Verdict). areaEnd w kind size) e ∙ simp (eq-eqb x 2 two, ne-eqb (blockEnd kind) 0 some)
       in
-      (start ∙ ap (λ (m : ℕ). min (blockEnd (r .record .kind)) m) (end ∙ sym here), end ∙ sym here)
+      (start ∙ ap (λ (m : ℕ). min (blockEnd kind) m) (end ∙ sym here), end ∙ sym here)
+
+module _ (kind : Kind) (size n v : ℕ) where
+  pub old-version : (v ≡ 2 → ⊥) → areaEnd (Accepted n v) kind size ≡ 0
+  old-version h = simp (ne-eqb v 2 h)
+
+  pub no-block : v ≡ 2 → blockEnd kind ≡ 0 → areaEnd (Accepted n v) kind size ≡ 0
+  no-block e z = simp (eq-eqb v 2 e, eq-eqb (blockEnd kind) 0 z)

@@ -1,20 +1,27 @@
 // The reader of PROXY protocol headers of both versions: what lent received bytes are, and where their TLV area lies.
 // No public function has a `requires`.
 use answer::Reading;
+use answer::Seen;
 use answer::Verdict;
 use answer::more;
 use block::block;
 use line::line;
 use record::Kind;
+use record::Record;
+use record::addresses_of;
+use record::behind;
+use record::least;
+use record::record_from;
 ghost use mathlib.Core.Path.{_≡_};
-ghost use Prim.Native.Nat.{_+_, min};
+ghost use Prim.Native.Nat.{_+_};
 ghost use lib.ListN.{length};
+ghost use Rattle.answer.specs.Sight.{inBytes, recordBy, readingOf};
 ghost use Rattle.reader.specs.Read.{Reads};
 ghost use Rattle.reader.specs.Area.{blockEnd, areaStart, areaEnd, readArea};
 
-// What the bytes so far are: demand 3 of document 01, for every s.
-pub fn read(s: &[u8]) -> Reading
-    ensures { λ r. ⌜ Reads (now (s .entry)) r ⌝ }
+// What is seen in the bytes so far: demand 3 of document 01, for every s, before a record is made.
+pub fn scan(s: &[u8]) -> Seen
+    ensures { λ r. ⌜ Reads (now (s .entry)) (readingOf (now (s .entry)) r) ⌝ }
 {
     if s.len() == 0 {
         return more();
@@ -22,16 +29,58 @@ pub fn read(s: &[u8]) -> Reading
     if s[0] == b'P' { line(s) } else { block(s) }
 }
 
+// Whether the addresses stand in the bytes read.
+pub fn in_bytes(verdict: Verdict) -> bool
+    ensures { λ r. ⌜ r ≡ inBytes verdict ⌝ }
+{
+    match verdict {
+        Verdict::Accepted { length: _, version } => version == 2,
+        Verdict::More => false,
+        Verdict::Refused {
+            refusal: _,
+            place: _,
+        } => false,
+    }
+}
+
+// The record of what is seen in s.
+pub fn record_of(s: &[u8], seen: Seen) -> Record
+    ensures { λ r. ⌜ r ≡ recordBy (seen .verdict) (now (s .entry)) (seen .caller) ⌝ }
+{
+    let verdict = seen.verdict;
+    let caller = seen.caller;
+    let kind = caller.kind;
+    let source = caller.source;
+    let destination = caller.destination;
+    if in_bytes(verdict) {
+        addresses_of(kind, behind(s, 16))
+    } else {
+        record_from(
+            kind,
+            &source,
+            &destination,
+            caller.source_port,
+            caller.destination_port,
+        )
+    }
+}
+
+// What the bytes so far are: demand 3 of document 01, for every s.
+pub fn read(s: &[u8]) -> Reading
+    ensures { λ r. ⌜ Reads (now (s .entry)) r ⌝ }
+{
+    let seen = scan(s);
+    let verdict = seen.verdict;
+    Reading {
+        verdict,
+        record: record_of(s, seen),
+    }
+}
+
 // Where a part of the bytes read begins and ends.
 pub struct Span {
     pub start: usize,
     pub end: usize,
-}
-
-fn least(a: usize, b: usize) -> usize
-    ensures { λ r. ⌜ r ≡ min a b ⌝ }
-{
-    if a <= b { a } else { b }
 }
 
 // Where a kind's address block ends in a header; 0 for a kind without addresses.
@@ -47,13 +96,10 @@ fn block_end(kind: Kind) -> usize
     }
 }
 
-// Where the TLV area of a reading lies in the bytes read, of which there are size.
-pub fn area_span(reading: Reading, size: usize) -> Span
-    ensures { λ r. ⌜ (r .start ≡ areaStart reading size) × (r .end ≡ areaEnd reading size) ⌝ }
+// Where the TLV area lies in the bytes read, of which there are size, by the verdict on them and the kind.
+pub fn area_span(verdict: Verdict, kind: Kind, size: usize) -> Span
+    ensures { λ r. ⌜ (r .start ≡ areaStart verdict kind size) × (r .end ≡ areaEnd verdict kind size) ⌝ }
 {
-    let verdict = reading.verdict;
-    let connection = reading.record;
-    let kind = connection.kind;
     match verdict {
         Verdict::Accepted { length, version } => {
             if version == 2 {
@@ -82,10 +128,13 @@ pub fn area_span(reading: Reading, size: usize) -> Span
 // The TLV area of a reading of s, as the very part of s; empty where there is none.
 pub fn tlv_area(s: &[u8], reading: Reading) -> &[u8]
     ensures { λ r. ⌜ (r .ptr .0 ≡ s .entry .ptr .0)
-        × (r .ptr .1 ≡ s .entry .ptr .1 + areaStart reading (length (now (s .entry))))
+        × (r .ptr .1 ≡ s .entry .ptr .1 + areaStart (reading .verdict) (reading .record .kind) (length (now (s .entry))))
         × (now r ≡ readArea reading (now (s .entry))) ⌝ }
 {
-    let span = area_span(reading, s.len());
+    let verdict = reading.verdict;
+    let connection = reading.record;
+    let kind = connection.kind;
+    let span = area_span(verdict, kind, s.len());
     let start = span.start;
     let end = span.end;
     &s[start..end]

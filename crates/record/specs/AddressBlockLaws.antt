@@ -14,6 +14,7 @@ use Rattle.record.specs.declared.Kind.{Kind}
 use Rattle.record.specs.declared.Kind.the-variants.{Local, Unspecified, Ip4, Ip6, Unix}
 use Rattle.record.specs.declared.Record.{Record}
 use Rattle.record.specs.Kinds.{addressLength, portLength, blockLength}
+use Rattle.record.specs.HeldLaws.{held-length}
 use Rattle.record.specs.Records.{held, recordOf, PortFits, Clean, Sized}
 use Rattle.record.specs.AddressBlock.{addressBlock, numberAt, portAt, blockRecord}
 
@@ -71,10 +72,7 @@ module _ (k : Kind) (a : List ℕ) (size : length a ≡ addressLength k) where
   held-zeros = drop-at a (replicate (108 - length a) 0) (addressLength k) size ∙ ap (λ (n : ℕ). replicate (108 - n) 0) size
 
   held-size : length (held a) ≡ 108
-  held-size =
-      let h = address-fits k in
-      let z = zeros (108 - length a) .size in
-      simp length-append (omega arith)
+  held-size = held-length a (let h = address-fits k in omega arith)
 
 held-bytes : (a : List ℕ) → AllBytes a → AllBytes (held a)
 held-bytes a b = bytes-append a (replicate (108 - length a) 0) b (zeros (108 - length a) .bytes)

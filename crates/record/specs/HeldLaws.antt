@@ -4,9 +4,11 @@ use mathlib.Core.List.{List, _++_}
 use Prim.Native.Nat.{ℕ, zero, suc, _+_, _-_, _≤_, _<_}
 use native.Mathlib.Numerals.{add-one}
 use native.Mathlib.Omega.{arith}
-use lib.ListN.{length, take, drop, getD, set, replicate, length-replicate}
+use lib.ListN.{length, take, drop, getD, set, replicate, length-append, length-replicate}
 use lib.Seq.{paste, paste-suc, length-take-le}
 use Rattle.record.specs.Records.{held}
+use Rattle.record.specs.Placed.{placed}
+use Rattle.record.specs.PlacedLaws.{placed-over}
 
 -- an array of zeros
 abbrev pub blank : List ℕ
@@ -32,3 +34,12 @@ module _ (s : List ℕ) (i : ℕ) where
       ∙ ap (λ (j : ℕ). set (paste blank 0 s i) j (getD s i 0)) here
       ∙ paste-suc blank 0 s i 0 (let e = length-replicate {A = ℕ} 108 0 in omega arith) h
       ∙ ap (λ (j : ℕ). paste blank 0 s j) (sym (add-one i))
+
+pub held-length : (a : List ℕ) → length a ≤ 108 → length (held a) ≡ 108
+held-length a h = let z = length-replicate {A = ℕ} (108 - length a) 0 in simp length-append (omega arith)
+
+-- an address put over zeros
+pub held-placed : (a : List ℕ) (at : ℕ) (d : List ℕ) → at + 108 ≤ length d → length a ≤ 108 → placed a at (placed blank at d) ≡ placed (held a) at d
+held-placed a at d h k =
+    let size = length-replicate {A = ℕ} 108 0 in
+    placed-over a blank at d (omega arith) (omega arith) ∙ ap (λ (z : List ℕ). placed (a ++ z) at d) (drop-zeros (length a) 108)

@@ -9,3 +9,4 @@ pub mod AddressBlock
 pub mod AddressBlockLaws
 pub mod Placed
 pub mod PlacedLaws
+pub mod PartLaws

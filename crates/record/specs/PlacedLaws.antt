@@ -4,8 +4,8 @@ use mathlib.Core.List.{List, _++_, append-assoc}
 use Prim.Native.Nat.{ℕ, _+_, _≤_, _<_}
 use native.Mathlib.Omega.{arith}
 use borrow.Author.Tests.{le-leb, lt-leb}
-use lib.ListN.{length, take, drop, length-append}
-use lib.Seq.{length-take-le, take-at, drop-at, drop-drop, paste, take-length, length-paste}
+use lib.ListN.{length, take, drop, length-append, length-drop}
+use lib.Seq.{length-take-le, take-at, drop-at, drop-append-le, drop-drop, paste, take-length, length-paste}
 use Rattle.record.specs.Placed.{placed}
 
 pub placed-else : (a : List ℕ) (at : ℕ) (d : List ℕ) → length d < at + length a → placed a at d ≡ d
@@ -60,3 +60,27 @@ placed-front a d h =
 -- the same, of a buffer's state behind n bytes
 pub placed-start : (a d d₁ : List ℕ) (n : ℕ) → d₁ ≡ placed a 0 d → length a ≡ n → n ≤ length d → d₁ ≡ a ++ drop n d
 placed-start a d d₁ n e size h = e ∙ placed-front a d (omega arith) ∙ ap (λ (m : ℕ). a ++ drop m d) size
+
+-- bytes put over the first of those that stand there
+pub placed-over : (a z : List ℕ) (at : ℕ) (d : List ℕ) → at + length z ≤ length d → length a ≤ length z
+    → placed a at (placed z at d) ≡ placed (a ++ drop (length a) z) at d
+placed-over a z at d h k =
+    let whole = placed-length z at d h in
+    let rest = drop (at + length z) d in
+    let size = length-take-le at d (omega arith) in
+    let here : placed z at d ≡ take at d ++ (z ++ rest) = placed-fits z at d h ∙ append-assoc (take at d) z rest in
+    let front : take at (placed z at d) ≡ take at d = ap (take at) here ∙ take-at (take at d) (z ++ rest) at size in
+    let back : drop (at + length a) (placed z at d) ≡ drop (length a) z ++ rest =
+    sym (drop-drop (length a) at (placed z at d))
+    ∙ ap (drop (length a)) (ap (drop at) here ∙ drop-at (take at d) (z ++ rest) at size)
+    ∙ drop-append-le (length a) z rest k
+    in
+    let same : at + length (a ++ drop (length a) z) ≡ at + length z =
+    let e = length-append a (drop (length a) z) in let f = length-drop (length a) z in omega arith
+    in
+    let parts : take at d ++ a ++ (drop (length a) z ++ rest) ≡ take at d ++ (a ++ drop (length a) z) ++ rest = simp append-assoc in
+    placed-fits a at (placed z at d) (omega arith)
+    ∙ ap₂ (λ (x y : List ℕ). x ++ a ++ y) front back
+    ∙ parts
+    ∙ ap (λ (n : ℕ). take at d ++ (a ++ drop (length a) z) ++ drop n d) (sym same)
+    ∙ sym (placed-fits (a ++ drop (length a) z) at d (omega arith))

@@ -2,28 +2,49 @@
 use crate::Kind;
 use crate::Record;
 use crate::address_length;
+use crate::part::behind;
+use crate::part::least;
 use crate::port_length;
 ghost use mathlib.Core.Path.{_≡_};
-ghost use Prim.Native.Nat.{_≤_};
-ghost use lib.ListN.{take, drop, getD};
-ghost use Rattle.record.specs.Records.{held as heldOf};
+ghost use Prim.Native.Nat.{_+_, _≤_};
+ghost use lib.ListN.{take, getD};
+ghost use Rattle.record.specs.Kinds.{addressLength, portLength};
+ghost use Rattle.record.specs.Records.{held as heldOf, recordOf};
 ghost use Rattle.record.specs.AddressBlock.{numberAt, portAt, blockRecord};
 
-// The n bytes from this place on, or as many as there are, as a record holds an address.
-fn held(block: &[u8], at: usize, n: usize) -> [u8; 108]
-    requires { ⌜ (at ≤ 108) × (n ≤ 108) ⌝ }
-    ensures { λ r. ⌜ r ≡ heldOf (take n (drop at (now (block .entry)))) ⌝ }
+// The first n bytes, or as many as there are, as a record holds an address.
+fn held(bytes: &[u8], n: usize) -> [u8; 108]
+    requires { ⌜ n ≤ 108 ⌝ }
+    ensures { λ r. ⌜ r ≡ heldOf (take n (now (bytes .entry))) ⌝ }
 {
+    let m = least(n, bytes.len());
     let mut address = [0u8; 108];
     let mut i: usize = 0;
-    while i < n {
-        if block.len() <= at + i {
-            return address;
-        }
-        address[i] = block[at + i];
+    while i < m {
+        address[i] = bytes[i];
         i += 1;
     }
     address
+}
+
+// The record of a kind with these ports, and the addresses that these bytes begin with.
+pub fn record_from(
+    kind: Kind,
+    source: &[u8],
+    destination: &[u8],
+    source_port: u16,
+    destination_port: u16,
+) -> Record
+    ensures { λ r. ⌜ r ≡ recordOf kind (take (addressLength kind) (now (source .entry))) (take (addressLength kind) (now (destination .entry))) «source_port» «destination_port» ⌝ }
+{
+    let n = address_length(kind);
+    Record {
+        kind,
+        source: held(source, n),
+        destination: held(destination, n),
+        source_port,
+        destination_port,
+    }
 }
 
 // The byte at this place, or zero behind the end.
@@ -57,17 +78,32 @@ fn port_at(kind: Kind, block: &[u8], at: usize) -> u16
     }
 }
 
+// The source port of an address block; zero, where the kind has no ports.
+pub fn source_port_of(kind: Kind, block: &[u8]) -> u16
+    ensures { λ r. ⌜ r ≡ portAt kind (now (block .entry)) (addressLength kind + addressLength kind) ⌝ }
+{
+    let n = address_length(kind);
+    port_at(kind, block, n + n)
+}
+
+// The destination port of an address block; zero, where the kind has no ports.
+pub fn destination_port_of(kind: Kind, block: &[u8]) -> u16
+    ensures { λ r. ⌜ r ≡ portAt kind (now (block .entry)) (addressLength kind + addressLength kind + portLength kind) ⌝ }
+{
+    let n = address_length(kind);
+    port_at(kind, block, n + n + port_length(kind))
+}
+
 // The record that an address block of this kind gives; bytes that are missing count as zero.
 pub fn addresses_of(kind: Kind, block: &[u8]) -> Record
     ensures { λ r. ⌜ r ≡ blockRecord kind (now (block .entry)) ⌝ }
 {
     let n = address_length(kind);
-    let m = port_length(kind);
-    Record {
+    record_from(
         kind,
-        source: held(block, 0, n),
-        destination: held(block, n, n),
-        source_port: port_at(kind, block, n + n),
-        destination_port: port_at(kind, block, n + n + m),
-    }
+        block,
+        behind(block, n),
+        source_port_of(kind, block),
+        destination_port_of(kind, block),
+    )
 }

@@ -2,11 +2,18 @@
 // No public function has a `requires`.
 mod input;
 mod output;
+mod part;
 mod unused;
 
 pub use input::addresses_of;
+pub use input::destination_port_of;
+pub use input::record_from;
+pub use input::source_port_of;
 pub use output::put;
 pub use output::put_addresses;
+pub use part::behind;
+pub use part::front;
+pub use part::least;
 pub use unused::clean;
 ghost use mathlib.Core.Path.{_≡_};
 ghost use Rattle.record.specs.Told.{toldFamily};

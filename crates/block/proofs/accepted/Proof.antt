@@ -1,10 +1,25 @@
--- The answer is told as it is made.
-use mathlib.Core.Path.{refl}
+-- The record is that of the kind's address block in the bytes.
+use mathlib.Core.Path.{ap}
+use lib.ListN.{take, drop}
+use Rattle.exact.specs.Claim.{accepted as acceptedOf}
+use Rattle.record.specs.AddressBlock.{blockRecord}
+use Rattle.header.specs.BlockFields.{blocked}
+use Rattle.answer.specs.declared.Caller.{Caller}
+use Rattle.answer.specs.Answers.{areaOf}
+use borrow.Author.Needs.{needs}
 use Rattle.block.proofs.accepted.Statement.{statement}
 use Rattle.block.proofs.accepted.Tie as tie
 
+of-kind-requires : tie.Need-of-kind-requires
+of-kind-requires c κs = search needs
+
 returns : tie.Need-returns
-returns c = λ s. record { told = refl; unused = tt }
+returns c s =
+    let length = c .before .args .length in
+    record {
+      told = ap (λ (x : Caller). acceptedOf (blocked (blockRecord (x .kind) (drop 16 s)) (areaOf 2 (x .kind) (take length s))) length) (c .of-kind .ensures);
+      unused = tt;
+    }
 
 pub accepted-spec : {M : Type 1} → statement M
-accepted-spec = tie.close (tie.spec returns)
+accepted-spec = tie.close (tie.spec of-kind-requires returns)

@@ -86,7 +86,7 @@ returns-3 c =
     let k = kind (start ran) in
     as-refused (blockLengthField k) (addresses k) s 14 8 1
     (sym (number-full (fits (blockLength k)) 8 false (drop 14 s) (bytes-drop 14 s (all (start ran))) (head ran) (judged ran false (c .before .if2 .left))))
-    (c .refused .ensures)
+    (c .refused .ensures s)
 
 pub addressed-spec : {M : Type 1} → statement M
 addressed-spec =

@@ -115,26 +115,23 @@ enum-known-n c = search needs
 add-accepted : tie.Need-add-accepted
 add-accepted c = omega (arith, inside (c .before .before .before) _ (c .before .n .given .1))
 
-connection-requires : tie.Need-connection-requires
-connection-requires c κs = search needs
-
 accepted-requires : tie.Need-accepted-requires
 accepted-requires c κs = search needs
 
 returns-2 : tie.Need-returns-2
 returns-2 c =
     let ran = c .before .before .before in
-    tlvs-more (here ran) (found ran _ (c .before .enum-told .given .1)) (c .more2 .ensures)
+    tlvs-more (here ran) (found ran _ (c .before .enum-told .given .1)) (c .more2 .ensures (text (start ran)))
 
 returns-3 : tie.Need-returns-3
 returns-3 c =
     let ran = c .before .before .before .before in
-    tlvs-refused (here ran) _ (found ran _ (c .before .before .place .given .1)) (c .refused .ensures)
+    tlvs-refused (here ran) _ (found ran _ (c .before .before .place .given .1)) (c .refused .ensures (text (start ran)))
 
 returns-4 : tie.Need-returns-4
 returns-4 c =
-    let ran = c .before .before .before .before .before in
-    tlvs-accepted (here ran) _ _ _ (found ran _ (c .before .before .before .n .given .1)) (c .before .connection .ensures) (c .accepted .ensures)
+    let ran = c .before .before .before .before in
+    tlvs-accepted (here ran) _ _ (found ran _ (c .before .before .n .given .1)) (c .accepted .ensures (text (start ran)))
 
 pub addresses-spec : {M : Type 1} → statement M
 addresses-spec =
@@ -156,7 +153,6 @@ addresses-spec =
     refused-requires
     enum-known-n
     add-accepted
-    connection-requires
     accepted-requires
     returns-2
     returns-3

@@ -60,12 +60,12 @@ command-requires c κs = search needs
 returns : tie.Need-returns
 returns c =
     let ran = c .before .before .before in
-    first-more signatureField rest (text ran) (found ran _ (c .before .enum-told .given .1)) (c .more .ensures)
+    first-more signatureField rest (text ran) (found ran _ (c .before .enum-told .given .1)) (c .more .ensures (text ran))
 
 returns-2 : tie.Need-returns-2
 returns-2 c =
     let ran = c .before .before .before .before in
-    first-refused signatureField rest (text ran) 1 _ (found ran _ (c .before .before .place .given .1)) (c .refused .ensures)
+    first-refused signatureField rest (text ran) 1 _ (found ran _ (c .before .before .place .given .1)) (c .refused .ensures (text ran))
 
 returns-3 : tie.Need-returns-3
 returns-3 c =

@@ -94,7 +94,7 @@ returns-4 c =
     let unknown : commandOf x ≡ none = simp (ne-eqb x 0x20 (others .0 .1), ne-eqb x 0x21 (others .1)) in
     as-refused command commandRest s 12 6 0
     (sym (byte-full commandOf 6 none (rest ran) (bytes ran) (here ran) (ap commandOf (byte ran) ∙ unknown)))
-    (c .refused .ensures)
+    (c .refused .ensures s)
 
 pub command-spec : {M : Type 1} → statement M
 command-spec =

@@ -81,7 +81,7 @@ returns-3 c =
     let s = text (start ran) in
     as-refused familyField familyRest s 13 7 0
     (sym (byte-full family 7 _ (rest ran) (bytes-drop 13 s (all (start ran))) (here ran) (found ran _ (c .before .enum-told .given .1))))
-    (c .refused .ensures)
+    (c .refused .ensures s)
 
 pub proxy-spec : {M : Type 1} → statement M
 proxy-spec =

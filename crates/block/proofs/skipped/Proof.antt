@@ -9,6 +9,7 @@ use Rattle.exact.specs.Claim.{AllBytes, accepted}
 use Rattle.exact.specs.Field.{shift}
 use Rattle.record.specs.declared.Kind.{Kind}
 use Rattle.record.specs.Records.{bare}
+use Rattle.record.specs.AddressBlock.{blockRecord}
 use Rattle.header.specs.BlockFields.{blocked}
 use Rattle.answer.specs.StageLaws.{answers-as}
 use Rattle.block.specs.Parts.{numberAt}
@@ -55,21 +56,18 @@ returns-2 c =
     let few : length (text ran) < 16 + numberAt (drop 14 (text ran)) = let size = c .before .before .number .ensures in omega arith in
     answers-as (c .more2 .ensures (text ran)) (skipped-short (bare (kind ran)) (text ran) (all ran) (c .before .before .before .if1 .left) few)
 
-blank-requires : tie.Need-blank-requires
-blank-requires c κs = search needs
-
 accepted-requires : tie.Need-accepted-requires
 accepted-requires c κs = search needs
 
 returns-3 : tie.Need-returns-3
 returns-3 c =
-    let ran = c .before .before .before .before .before in
-    let size = c .before .before .before .number .ensures in
-    let end = 16 + c .before .before .before .number .result in
+    let ran = c .before .before .before .before in
+    let size = c .before .before .number .ensures in
+    let end = 16 + c .before .before .number .result in
     let whole : end ≤ length (text ran) = omega arith in
+    let none = bare-kind (kind ran) (ran .before .pre) in
     answers-as
-    (as-block (text ran) end (c .before .blank .result) (bare (kind ran)) [] (c .before .blank .ensures) (bare-kind (kind ran) (ran .before .pre) .0 _)
-    (c .accepted .ensures))
+    (as-block (text ran) end (blockRecord (kind ran) (drop 16 (text ran))) (bare (kind ran)) [] (none .2 _) (none .0 _) (c .accepted .ensures (text ran)))
     (ap (λ (n : ℕ). shift (16 + n) (accepted (blocked (bare (kind ran)) []) 0)) size
     ∙ skipped-whole (bare (kind ran)) (text ran) (all ran) (rw size at whole))
 
@@ -84,6 +82,5 @@ skipped-spec =
     add-end
     more-requires-2
     returns-2
-    blank-requires
     accepted-requires
     returns-3)

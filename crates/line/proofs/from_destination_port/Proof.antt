@@ -1,6 +1,6 @@
 -- The port is a decimal field, and behind it the line feed ends the line.
 use Prim.Native.Nat.{ℕ, _+_}
-use mathlib.Core.Path.{_≡_, subst}
+use mathlib.Core.Path.{_≡_, ap}
 use mathlib.Core.List.{List}
 use native.Mathlib.Omega.{arith}
 use lib.ListN.{drop, take}
@@ -9,13 +9,14 @@ use Rattle.exact.specs.Told.{told}
 use Rattle.exact.specs.Stage.{stage-inside, stage-member, stage-place}
 use Rattle.exact.specs.Parser.{Parser}
 use Rattle.exact.specs.declared.Scan.{Scan}
+use Rattle.record.specs.declared.Kind.{Kind}
 use Rattle.record.specs.declared.Record.{Record}
+use Rattle.record.specs.Kinds.{addressLength}
 use Rattle.record.specs.Records.{recordOf}
 use Rattle.header.specs.Header.{Header}
 use Rattle.header.specs.LineFields.{lined, lineFeed, destinationPort}
-use Rattle.answer.specs.Answers.{Answers}
 use Rattle.line.specs.Families.{kindOf, width}
-use Rattle.answer.specs.StageLaws.{said, as-more, as-refused, as-accepted}
+use Rattle.answer.specs.StageLaws.{answers-as, said, as-more, as-refused, as-accepted}
 use borrow.Author.Needs.{needs}
 use Rattle.line.proofs.from_destination_port.Statement.{statement}
 use Rattle.line.proofs.from_destination_port.Tie as tie
@@ -67,29 +68,35 @@ refused-requires c κs = search needs
 enum-known-q : tie.Need-enum-known-q
 enum-known-q c = search needs
 
+kind-of-requires : tie.Need-kind-of-requires
+kind-of-requires c κs = search needs
+
+cast-t20 : tie.Need-cast-t20
+cast-t20 c = let ran = c .before .before .before .before in let h = stage-member destinationPort (text ran) (at ran) (start ran .pre) _ _ (found ran _ (c .before .before .q .given .1)) .1 .whole .fits in omega arith
+
 add-line-feed : tie.Need-add-line-feed
-add-line-feed c = let ran = c .before .before .before in let h = stage-inside destinationPort (text ran) (at ran) (start ran .pre) _ _ (found ran _ (c .before .q .given .1)) in omega arith
-
-cast-tcp-record : tie.Need-cast-tcp-record
-cast-tcp-record c = let ran = c .before .before .before in let h = stage-member destinationPort (text ran) (at ran) (start ran .pre) _ _ (found ran _ (c .before .q .given .1)) .1 .whole .fits in omega arith
-
-tcp-record-requires : tie.Need-tcp-record-requires
-tcp-record-requires c κs = search needs
+add-line-feed c = let ran = c .before .before .before .before in let h = stage-inside destinationPort (text ran) (at ran) (start ran .pre) _ _ (found ran _ (c .before .before .q .given .1)) in omega arith
 
 line-feed-requires : tie.Need-line-feed-requires
 line-feed-requires c κs = let ran = c .before .before .before .before in stage-inside destinationPort (text ran) (at ran) (start ran .pre) _ _ (found ran _ (c .before .before .q .given .1))
 
 returns : tie.Need-returns
-returns c = let ran = c .before .before .before in as-more destinationPort (rest ran) (text ran) (at ran) (found ran _ (c .before .enum-told .given .1)) (c .more .ensures)
+returns c = let ran = c .before .before .before in as-more destinationPort (rest ran) (text ran) (at ran) (found ran _ (c .before .enum-told .given .1)) (c .more .ensures (text ran))
 
 returns-2 : tie.Need-returns-2
-returns-2 c = let ran = c .before .before .before .before in as-refused destinationPort (rest ran) (text ran) (at ran) 4 _ (found ran _ (c .before .before .place .given .1)) (c .refused .ensures)
+returns-2 c = let ran = c .before .before .before .before in as-refused destinationPort (rest ran) (text ran) (at ran) 4 _ (found ran _ (c .before .before .place .given .1)) (c .refused .ensures (text ran))
 
 returns-3 : tie.Need-returns-3
 returns-3 c =
     let ran = c .before .before .before .before .before in
+    let n = at ran + c .before .before .before .q .given .0 .1 .0 in
+    let from = start ran .args in
+    let caller : Kind → Record =
+    λ k. recordOf k (take (addressLength k) (from .from)) (take (addressLength k) (from .to)) (from .p) (c .before .before .before .q .given .0 .0)
+    in
     as-accepted destinationPort (rest ran) (text ran) (at ran) _ _ (found ran _ (c .before .before .before .q .given .1))
-    (subst (λ (x : Record). Answers (text ran) (shift (at ran + c .before .before .before .q .given .0 .1 .0) (lineFeed (lined x) .verdict (drop (at ran + c .before .before .before .q .given .0 .1 .0) (text ran)))) (c .line-feed .result)) (c .before .tcp-record .ensures) (c .line-feed .ensures))
+    (answers-as (c .line-feed .ensures)
+    (ap (λ (k : Kind). shift n (lineFeed (lined (caller k)) .verdict (drop n (text ran)))) (c .before .kind-of .ensures)))
 
 pub from-destination-port-spec : {M : Type 1} → statement M
 from-destination-port-spec =
@@ -105,9 +112,9 @@ from-destination-port-spec =
     add-refused
     refused-requires
     enum-known-q
+    kind-of-requires
+    cast-t20
     add-line-feed
-    cast-tcp-record
-    tcp-record-requires
     line-feed-requires
     returns
     returns-2

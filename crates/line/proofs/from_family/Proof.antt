@@ -1,6 +1,8 @@
 -- The byte behind "TCP" tells the family.
+use mathlib.Core.Path.{sym, _∙_}
+use borrow.Author.Tests.{not-true, not-false}
 use Rattle.answer.specs.StageLaws.{answers-as}
-use Rattle.line.specs.Choices.{choice-none, family-four, family-six, family-other}
+use Rattle.line.specs.Choices.{choice-none, family-known, family-other}
 use borrow.Author.Needs.{needs}
 use Rattle.line.proofs.from_family.Statement.{statement}
 use Rattle.line.proofs.from_family.Tie as tie
@@ -14,29 +16,33 @@ returns c = let start = c .before .before .before in answers-as (c .more .ensure
 shared-slice-read-c : tie.Need-shared-slice-read-c
 shared-slice-read-c c = search needs
 
+is-family-requires : tie.Need-is-family-requires
+is-family-requires c κs = search needs
+
+refused-requires : tie.Need-refused-requires
+refused-requires c κs = search needs
+
+returns-2 : tie.Need-returns-2
+returns-2 c =
+    let told = c .before .before in
+    let here = told .before .before in
+    let start = here .before .before in
+    answers-as (c .refused .ensures (start .args .s .now))
+    (family-other (start .args .s .now) (start .args .at) (here .if1 .left) (sym (told .is-family .ensures) ∙ not-true _ (c .before .if2 .taken)))
+
 add-from-space : tie.Need-add-from-space
 add-from-space c = search needs
 
 from-space-requires : tie.Need-from-space-requires
 from-space-requires c κs = search needs
 
-add-from-space-2 : tie.Need-add-from-space-2
-add-from-space-2 c = search needs
-
-from-space-requires-2 : tie.Need-from-space-requires-2
-from-space-requires-2 c κs = search needs
-
-refused-requires : tie.Need-refused-requires
-refused-requires c κs = search needs
-
-returns-2 : tie.Need-returns-2
-returns-2 c = let start = c .before .before .before .before .before in answers-as (c .from-space .ensures) (family-four (start .args .s .now) (start .args .at) (c .before .before .before .if1 .left) (c .before .if2 .taken))
-
 returns-3 : tie.Need-returns-3
-returns-3 c = let start = c .before .before .before .before .before .before in answers-as (c .from-space2 .ensures) (family-six (start .args .s .now) (start .args .at) (c .before .before .before .before .if1 .left) (c .before .if3 .taken))
-
-returns-4 : tie.Need-returns-4
-returns-4 c = let start = c .before .before .before .before .before .before in answers-as (c .refused .ensures (start .args .s .now)) (family-other (start .args .s .now) (start .args .at) (c .before .before .before .before .if1 .left) (c .before .before .if2 .left) (c .before .if3 .left))
+returns-3 c =
+    let told = c .before .before in
+    let here = told .before .before in
+    let start = here .before .before in
+    answers-as (c .from-space .ensures)
+    (family-known (start .args .s .now) (start .args .at) (here .if1 .left) (sym (told .is-family .ensures) ∙ not-false _ (c .before .if2 .left)))
 
 pub from-family-spec : {M : Type 1} → statement M
 from-family-spec =
@@ -45,11 +51,9 @@ from-family-spec =
     more-requires
     returns
     shared-slice-read-c
-    add-from-space
-    from-space-requires
-    add-from-space-2
-    from-space-requires-2
+    is-family-requires
     refused-requires
     returns-2
-    returns-3
-    returns-4)
+    add-from-space
+    from-space-requires
+    returns-3)

@@ -1,6 +1,6 @@
 -- The end of the line is a field, and behind it the header is said.
 use Prim.Native.Nat.{ℕ}
-use mathlib.Core.Path.{_≡_}
+use mathlib.Core.Path.{_≡_, ap}
 use mathlib.Core.List.{List}
 use native.Mathlib.Omega.{arith}
 use lib.ListN.{drop}
@@ -13,6 +13,7 @@ use Rattle.record.specs.declared.Kind.the-variants.{Unspecified}
 use Rattle.record.specs.Records.{bare}
 use Rattle.header.specs.LineFields.{lined, restField}
 use Rattle.answer.specs.StageLaws.{said, as-more, as-refused, as-accepted, as-said}
+use Rattle.answer.specs.Sight.{callerRecord}
 use borrow.Author.Needs.{needs}
 use Rattle.line.proofs.from_rest.Statement.{statement}
 use Rattle.line.proofs.from_rest.Tie as tie
@@ -66,17 +67,17 @@ enum-known-n c = search needs
 add-t13 : tie.Need-add-t13
 add-t13 c = let ran = c .before .before .before in let h = stage-inside restField (text ran) (at ran) (start ran .pre) _ _ (found ran _ (c .before .n .given .1)) in omega arith
 
-blank-requires : tie.Need-blank-requires
-blank-requires c κs = search needs
+of-kind-requires : tie.Need-of-kind-requires
+of-kind-requires c κs = search needs
 
 returns : tie.Need-returns
-returns c = let ran = c .before .before .before in as-more restField (rest ran) (text ran) (at ran) (found ran _ (c .before .enum-told .given .1)) (c .more .ensures)
+returns c = let ran = c .before .before .before in as-more restField (rest ran) (text ran) (at ran) (found ran _ (c .before .enum-told .given .1)) (c .more .ensures (text ran))
 
 returns-2 : tie.Need-returns-2
-returns-2 c = let ran = c .before .before .before .before in as-refused restField (rest ran) (text ran) (at ran) 5 _ (found ran _ (c .before .before .place .given .1)) (c .refused .ensures)
+returns-2 c = let ran = c .before .before .before .before in as-refused restField (rest ran) (text ran) (at ran) 5 _ (found ran _ (c .before .before .place .given .1)) (c .refused .ensures (text ran))
 
 returns-3 : tie.Need-returns-3
-returns-3 c = let ran = c .before .before .before .before in as-accepted restField (rest ran) (text ran) (at ran) _ _ (found ran _ (c .before .before .n .given .1)) (as-said (text ran) _ (c .blank .ensures))
+returns-3 c = let ran = c .before .before .before .before in as-accepted restField (rest ran) (text ran) (at ran) _ _ (found ran _ (c .before .before .n .given .1)) (as-said (text ran) _ (ap callerRecord (c .of-kind .ensures)))
 
 pub from-rest-spec : {M : Type 1} → statement M
 from-rest-spec =
@@ -93,7 +94,7 @@ from-rest-spec =
     refused-requires
     enum-known-n
     add-t13
-    blank-requires
+    of-kind-requires
     returns
     returns-2
     returns-3)

@@ -19,7 +19,7 @@ use Rattle.line.proofs.from_source.Tie as tie
 
 module _ (c : tie.After-address) where
   abbrev start : tie.Start
-  start = c .before .before .before
+  start = c .before .before .before .before
 
   abbrev text : List ℕ
   text = start .args .s .now
@@ -33,8 +33,8 @@ module _ (c : tie.After-address) where
   abbrev rest : List ℕ → Parser Header
   rest = fromDestination (kindOf six) (field six)
 
-  found : (x : Scan) → c .address .result .scan ≡ x → toldBytes (width six) x (c .address .result) ≡ field six .verdict (drop at text)
-  found x e = said-found six text at (c .address .result) e (c .address .ensures)
+  found : (x : Scan) → c .address .result ≡ x → toldBytes (width six) x (c .address .last .1 .1 .0) ≡ field six .verdict (drop at text)
+  found x e = said-found six text at (c .address .last .1 .1 .0) e (c .address .ensures)
 
 sub-address : tie.Need-sub-address
 sub-address c = search needs
@@ -54,32 +54,32 @@ enum-told c = search needs
 more-requires : tie.Need-more-requires
 more-requires c κs = search needs
 
-enum-known-scan : tie.Need-enum-known-scan
-enum-known-scan c = search needs
+enum-known-place : tie.Need-enum-known-place
+enum-known-place c = search needs
 
 add-refused : tie.Need-add-refused
-add-refused c = let ran = c .before .before .before .before in let h = stage-place (field (six ran)) (text ran) (at ran) (start ran .pre) 3 _ (found ran _ (c .before .scan .given .1)) in omega arith
+add-refused c = let ran = c .before .before .before in let h = stage-place (field (six ran)) (text ran) (at ran) (start ran .pre) 3 _ (found ran _ (c .before .place .given .1)) in omega arith
 
 refused-requires : tie.Need-refused-requires
 refused-requires c κs = search needs
 
-enum-known-scan-2 : tie.Need-enum-known-scan-2
-enum-known-scan-2 c = search needs
+enum-known-n : tie.Need-enum-known-n
+enum-known-n c = search needs
 
 add-from-destination : tie.Need-add-from-destination
-add-from-destination c = let ran = c .before .before .before .before in let h = stage-inside (field (six ran)) (text ran) (at ran) (start ran .pre) _ _ (found ran _ (c .before .scan2 .given .1)) in omega arith
+add-from-destination c = let ran = c .before .before .before in let h = stage-inside (field (six ran)) (text ran) (at ran) (start ran .pre) _ _ (found ran _ (c .before .n .given .1)) in omega arith
 
 from-destination-requires : tie.Need-from-destination-requires
-from-destination-requires c κs = let ran = c .before .before .before .before in stage-inside (field (six ran)) (text ran) (at ran) (start ran .pre) _ _ (found ran _ (c .before .scan2 .given .1))
+from-destination-requires c κs = let ran = c .before .before .before in stage-inside (field (six ran)) (text ran) (at ran) (start ran .pre) _ _ (found ran _ (c .before .n .given .1))
 
 returns : tie.Need-returns
-returns c = let ran = c .before .before .before .before in as-more (field (six ran)) (rest ran) (text ran) (at ran) (found ran _ (c .before .enum-told .given .1)) (c .more .ensures)
+returns c = let ran = c .before .before .before in as-more (field (six ran)) (rest ran) (text ran) (at ran) (found ran _ (c .before .enum-told .given .1)) (c .more .ensures (text ran))
 
 returns-2 : tie.Need-returns-2
-returns-2 c = let ran = c .before .before .before .before .before in as-refused (field (six ran)) (rest ran) (text ran) (at ran) 3 _ (found ran _ (c .before .before .scan .given .1)) (c .refused .ensures)
+returns-2 c = let ran = c .before .before .before .before in as-refused (field (six ran)) (rest ran) (text ran) (at ran) 3 _ (found ran _ (c .before .before .place .given .1)) (c .refused .ensures (text ran))
 
 returns-3 : tie.Need-returns-3
-returns-3 c = let ran = c .before .before .before .before .before in as-accepted (field (six ran)) (rest ran) (text ran) (at ran) _ _ (found ran _ (c .before .before .scan2 .given .1)) (c .from-destination .ensures)
+returns-3 c = let ran = c .before .before .before .before in as-accepted (field (six ran)) (rest ran) (text ran) (at ran) _ _ (found ran _ (c .before .before .n .given .1)) (c .from-destination .ensures)
 
 pub from-source-spec : {M : Type 1} → statement M
 from-source-spec =
@@ -91,10 +91,10 @@ from-source-spec =
     address-requires
     enum-told
     more-requires
-    enum-known-scan
+    enum-known-place
     add-refused
     refused-requires
-    enum-known-scan-2
+    enum-known-n
     add-from-destination
     from-destination-requires
     returns

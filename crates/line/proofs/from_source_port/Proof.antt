@@ -10,7 +10,7 @@ use Rattle.exact.specs.Parser.{Parser}
 use Rattle.exact.specs.declared.Scan.{Scan}
 use Rattle.header.specs.Header.{Header}
 use Rattle.header.specs.LineFields.{sourcePort, fromDestinationPort}
-use Rattle.line.specs.Families.{kindOf, width, field}
+use Rattle.line.specs.Families.{kindOf, width}
 use Rattle.answer.specs.StageLaws.{said, as-more, as-refused, as-accepted}
 use borrow.Author.Needs.{needs}
 use Rattle.line.proofs.from_source_port.Statement.{statement}
@@ -73,10 +73,10 @@ from-destination-port-requires : tie.Need-from-destination-port-requires
 from-destination-port-requires c κs = let ran = c .before .before .before in stage-inside sourcePort (text ran) (at ran) (start ran .pre) _ _ (found ran _ (c .before .p .given .1))
 
 returns : tie.Need-returns
-returns c = let ran = c .before .before .before in as-more sourcePort (rest ran) (text ran) (at ran) (found ran _ (c .before .enum-told .given .1)) (c .more .ensures)
+returns c = let ran = c .before .before .before in as-more sourcePort (rest ran) (text ran) (at ran) (found ran _ (c .before .enum-told .given .1)) (c .more .ensures (text ran))
 
 returns-2 : tie.Need-returns-2
-returns-2 c = let ran = c .before .before .before .before in as-refused sourcePort (rest ran) (text ran) (at ran) 4 _ (found ran _ (c .before .before .place .given .1)) (c .refused .ensures)
+returns-2 c = let ran = c .before .before .before .before in as-refused sourcePort (rest ran) (text ran) (at ran) 4 _ (found ran _ (c .before .before .place .given .1)) (c .refused .ensures (text ran))
 
 returns-3 : tie.Need-returns-3
 returns-3 c = let ran = c .before .before .before .before in as-accepted sourcePort (rest ran) (text ran) (at ran) _ _ (found ran _ (c .before .before .p .given .1)) (c .from-destination-port .ensures)

@@ -1,13 +1,13 @@
 -- The byte behind "UNKNOWN" tells how the line ends.
 use Prim.Native.Nat.{_+_}
-use mathlib.Core.Path.{subst}
+use mathlib.Core.Path.{ap}
 use lib.ListN.{drop}
 use Rattle.exact.specs.Field.{shift}
-use Rattle.record.specs.declared.Record.{Record}
 use Rattle.header.specs.LineFields.{lined, lineFeed}
-use Rattle.answer.specs.Answers.{Answers}
 use Rattle.answer.specs.StageLaws.{answers-as}
 use Rattle.line.specs.Choices.{choice-none, end-cr, end-space, end-other}
+use Rattle.answer.specs.declared.Caller.{Caller}
+use Rattle.answer.specs.Sight.{callerRecord}
 use borrow.Author.Needs.{needs}
 use Rattle.line.proofs.from_unknown_end.Statement.{statement}
 use Rattle.line.proofs.from_unknown_end.Tie as tie
@@ -24,8 +24,8 @@ shared-slice-read-c c = search needs
 add-line-feed : tie.Need-add-line-feed
 add-line-feed c = search needs
 
-blank-requires : tie.Need-blank-requires
-blank-requires c κs = search needs
+of-kind-requires : tie.Need-of-kind-requires
+of-kind-requires c κs = search needs
 
 line-feed-requires : tie.Need-line-feed-requires
 line-feed-requires c κs = search needs
@@ -40,7 +40,7 @@ refused-requires : tie.Need-refused-requires
 refused-requires c κs = search needs
 
 returns-2 : tie.Need-returns-2
-returns-2 c = let start = c .before .before .before .before .before .before in answers-as (subst (λ (x : Record). Answers (start .args .s .now) (shift (start .args .at + 1) (lineFeed (lined x) .verdict (drop (start .args .at + 1) (start .args .s .now)))) (c .line-feed .result)) (c .before .blank .ensures) (c .line-feed .ensures)) (end-cr (start .args .s .now) (start .args .at) (c .before .before .before .before .if1 .left) (c .before .before .if2 .taken))
+returns-2 c = let start = c .before .before .before .before .before .before in answers-as (answers-as (c .line-feed .ensures) (ap (λ (x : Caller). shift (start .args .at + 1) (lineFeed (lined (callerRecord x)) .verdict (drop (start .args .at + 1) (start .args .s .now)))) (c .before .of-kind .ensures))) (end-cr (start .args .s .now) (start .args .at) (c .before .before .before .before .if1 .left) (c .before .before .if2 .taken))
 
 returns-3 : tie.Need-returns-3
 returns-3 c = let start = c .before .before .before .before .before .before in answers-as (c .from-rest .ensures) (end-space (start .args .s .now) (start .args .at) (c .before .before .before .before .if1 .left) (c .before .if3 .taken))
@@ -56,7 +56,7 @@ from-unknown-end-spec =
     returns
     shared-slice-read-c
     add-line-feed
-    blank-requires
+    of-kind-requires
     line-feed-requires
     add-from-rest
     from-rest-requires

@@ -45,10 +45,10 @@ from-word-requires : tie.Need-from-word-requires
 from-word-requires c κs = let ran = c .before .before .before in reach-le proxyWord (text ran) (accepted _ _) (found ran _ (c .before .n .given .1))
 
 returns : tie.Need-returns
-returns c = let ran = c .before .before .before in first-more proxyWord (λ x. words) (text ran) (found ran _ (c .before .enum-told .given .1)) (c .more .ensures)
+returns c = let ran = c .before .before .before in first-more proxyWord (λ x. words) (text ran) (found ran _ (c .before .enum-told .given .1)) (c .more .ensures (text ran))
 
 returns-2 : tie.Need-returns-2
-returns-2 c = let ran = c .before .before .before .before in first-refused proxyWord (λ x. words) (text ran) 1 _ (found ran _ (c .before .before .place .given .1)) (c .refused .ensures)
+returns-2 c = let ran = c .before .before .before .before in first-refused proxyWord (λ x. words) (text ran) 1 _ (found ran _ (c .before .before .place .given .1)) (c .refused .ensures (text ran))
 
 returns-3 : tie.Need-returns-3
 returns-3 c = let ran = c .before .before .before .before in first-accepted proxyWord (λ x. words) (text ran) _ _ (found ran _ (c .before .before .n .given .1)) (c .from-word .ensures)

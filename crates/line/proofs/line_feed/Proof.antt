@@ -4,7 +4,6 @@ use mathlib.Core.Path.{_≡_}
 use mathlib.Core.List.{List}
 use native.Mathlib.Omega.{arith}
 use lib.ListN.{drop}
-use Rattle.exact.specs.Claim.{more, refused}
 use Rattle.exact.specs.Told.{told}
 use Rattle.exact.specs.Stage.{stage-inside, stage-place}
 use Rattle.exact.specs.Parser.{Parser, just}
@@ -12,6 +11,7 @@ use Rattle.header.specs.Header.{Header}
 use Rattle.exact.specs.declared.Scan.{Scan}
 use Rattle.header.specs.LineFields.{lined, lfField}
 use Rattle.answer.specs.StageLaws.{said, as-more, as-refused, as-accepted, as-line}
+use Rattle.answer.specs.Sight.{callerRecord}
 use borrow.Author.Needs.{needs}
 use Rattle.line.proofs.line_feed.Statement.{statement}
 use Rattle.line.proofs.line_feed.Tie as tie
@@ -24,7 +24,7 @@ module _ (c : tie.After-literal) where
   at = c .before .before .before .before .args .at
 
   abbrev says : ℕ → Parser Header
-  says x = just (lined (c .before .before .before .before .args .connection))
+  says x = just (lined (callerRecord (c .before .before .before .before .args .caller)))
 
   found : (x : Scan) → c .literal .result ≡ x → told 5 x ≡ lfField .verdict (drop at text)
   found x e = said 5 (lfField .verdict) text at e (c .literal .ensures 5)
@@ -66,10 +66,10 @@ add-t17 : tie.Need-add-t17
 add-t17 c = let ran = c .before .before .before in let h = stage-inside lfField (text ran) (at ran) (ran .before .before .before .before .pre) _ _ (found ran _ (c .before .n .given .1)) in omega arith
 
 returns : tie.Need-returns
-returns c = let ran = c .before .before .before in as-more lfField (says ran) (text ran) (at ran) (found ran _ (c .before .enum-told .given .1)) (c .more .ensures)
+returns c = let ran = c .before .before .before in as-more lfField (says ran) (text ran) (at ran) (found ran _ (c .before .enum-told .given .1)) (c .more .ensures (text ran))
 
 returns-2 : tie.Need-returns-2
-returns-2 c = let ran = c .before .before .before .before in as-refused lfField (says ran) (text ran) (at ran) 5 _ (found ran _ (c .before .before .place .given .1)) (c .refused .ensures)
+returns-2 c = let ran = c .before .before .before .before in as-refused lfField (says ran) (text ran) (at ran) 5 _ (found ran _ (c .before .before .place .given .1)) (c .refused .ensures (text ran))
 
 returns-3 : tie.Need-returns-3
 returns-3 c = let ran = c .before .before .before in as-accepted lfField (says ran) (text ran) (at ran) _ _ (found ran _ (c .before .n .given .1)) (as-line (text ran) _ _)

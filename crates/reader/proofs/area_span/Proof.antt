@@ -26,30 +26,30 @@ enum-told-2 c = search needs
 
 returns : tie.Need-returns
 returns c =
-    let start = c .before .before .before .before .before .before .before in
     let told = c .before .before .before .before in
-    span-none (start .args .reading) (start .args .size) _ (told .verdict .given .1)
-    (no-block (start .args .reading) (start .args .size) _ _ (c .before .before .if1 .taken) (sym (c .before .block-end .ensures) ∙ c .if2 .taken))
+    let x = told .before .before .args in
+    span-none (x .verdict) (x .kind) (x .size) _ (told .verdict .given .1)
+    (no-block (x .kind) (x .size) _ _ (c .before .before .if1 .taken) (sym (c .before .block-end .ensures) ∙ c .if2 .taken))
 
 returns-2 : tie.Need-returns-2
 returns-2 c =
-    let start = c .before .before .before .before .before .before .before .before .before in
     let told = c .before .before .before .before .before .before in
-    span-some (start .args .reading) (start .args .size) _ _ _ _ (told .verdict .given .1) (c .before .before .before .before .if1 .taken)
+    let x = told .before .before .args in
+    span-some (x .verdict) (x .kind) (x .size) _ _ _ _ (told .verdict .given .1) (c .before .before .before .before .if1 .taken)
     (λ z. c .before .before .if2 .left (c .before .before .before .block-end .ensures ∙ z)) (c .before .least .ensures)
     (c .least2 .ensures ∙ ap (λ (m : ℕ). min m (c .before .least .result)) (c .before .before .before .block-end .ensures))
 
 returns-3 : tie.Need-returns-3
 returns-3 c =
-    let start = c .before .before .before .before .before in
-    span-none (start .args .reading) (start .args .size) _ (c .before .before .verdict .given .1)
-    (old-version (start .args .reading) (start .args .size) _ _ (c .if1 .left))
+    let told = c .before .before in
+    let x = told .before .before .args in
+    span-none (x .verdict) (x .kind) (x .size) _ (told .verdict .given .1) (old-version (x .kind) (x .size) _ _ (c .if1 .left))
 
 returns-4 : tie.Need-returns-4
-returns-4 c = let start = c .before .before .before in span-none (start .args .reading) (start .args .size) _ (c .enum-told .given .1) refl
+returns-4 c = let x = c .before .before .args in span-none (x .verdict) (x .kind) (x .size) _ (c .enum-told .given .1) refl
 
 returns-5 : tie.Need-returns-5
-returns-5 c = let start = c .before .before .before in span-none (start .args .reading) (start .args .size) _ (c .enum-told2 .given .1) refl
+returns-5 c = let x = c .before .before .args in span-none (x .verdict) (x .kind) (x .size) _ (c .enum-told2 .given .1) refl
 
 pub area-span-spec : {M : Type 1} → statement M
 area-span-spec =

@@ -1,44 +1,23 @@
--- The first byte tells the version, and each version's reader answers its field's verdict.
-use Rattle.reader.specs.ReadLaws.{reads-as, none-yet, of-line, of-block}
+-- `scan` ensures what is seen, and `record_of` its record.
+use mathlib.Core.Path.{sym, subst}
+use Rattle.record.specs.declared.Record.{Record}
+use Rattle.reader.specs.Read.{Reads}
 use borrow.Author.Needs.{needs}
 use Rattle.reader.proofs.read.Statement.{statement}
 use Rattle.reader.proofs.read.Tie as tie
 
-more-requires : tie.Need-more-requires
-more-requires c κs = search needs
+scan-requires : tie.Need-scan-requires
+scan-requires c κs = search needs
+
+record-of-requires : tie.Need-record-of-requires
+record-of-requires c κs = search needs
 
 returns : tie.Need-returns
 returns c =
-    let start = c .before .before .before in
-    reads-as (c .more .ensures (start .args .s .now)) (none-yet (start .args .s .now) (c .before .if1 .taken))
-
-shared-slice-read-if2 : tie.Need-shared-slice-read-if2
-shared-slice-read-if2 c = search needs
-
-line-requires : tie.Need-line-requires
-line-requires c κs = search needs
-
-block-requires : tie.Need-block-requires
-block-requires c κs = search needs
-
-returns-2 : tie.Need-returns-2
-returns-2 c =
-    let start = c .before .before .before .before .before in
-    reads-as (c .line .ensures) (of-line (start .args .s .now) (c .before .before .before .if1 .left) (c .before .if2 .taken))
-
-returns-3 : tie.Need-returns-3
-returns-3 c =
-    let start = c .before .before .before .before .before in
-    reads-as (c .block .ensures) (of-block (start .args .s .now) (c .before .before .before .if1 .left) (c .before .if2 .left))
+    let seen = c .before in
+    let x = seen .before .before .args in
+    subst (λ (r : Record). Reads (x .s .now) (record { verdict = seen .scan .result .verdict; «record» = r })) (sym (c .record-of .ensures))
+    (seen .scan .ensures)
 
 pub read-spec : {M : Type 1} → statement M
-read-spec =
-    tie.close
-    (tie.spec
-    more-requires
-    returns
-    shared-slice-read-if2
-    line-requires
-    block-requires
-    returns-2
-    returns-3)
+read-spec = tie.close (tie.spec scan-requires record-of-requires returns)

@@ -19,17 +19,17 @@ part-result-start c = search needs
 
 part-result-end : tie.Need-part-result-end
 part-result-end c =
-    let inside = area-inside (c .before .before .args .reading) (length (c .before .before .args .s .now)) in
+    let inside = area-inside (c .before .before .before .args .reading .verdict) (c .before .before .before .args .reading .record .kind) (length (c .before .before .before .args .s .now)) in
     let ends = c .area-span .ensures in
     omega arith
 
 returns : tie.Need-returns
 returns c =
-    let start = c .before .before .before in
+    let start = c .before .before .before .before in
     let span = c .before .area-span .ensures in (
       refl,
       omega arith,
-      ap₂ (λ (x y : ℕ). take (y - x) (drop x (start .args .s .now))) (span .0) (span .1) ∙ area-part (start .args .reading) (start .args .s .now),
+      ap₂ (λ (x y : ℕ). take (y - x) (drop x (start .args .s .now))) (span .0) (span .1) ∙ area-part (start .args .reading .verdict) (start .args .reading .record .kind) (start .args .s .now),
     )
 
 pub tlv-area-spec : {M : Type 1} → statement M

@@ -18,14 +18,14 @@ returns-2 c =
     untouched (verdict (now (x .bytes))) (now (x .numbers)) (now (x .connection))
     (short-connection (now (x .numbers)) (now (x .connection)) (omega arith) (omega arith))
 
-read-requires : tie.Need-read-requires
-read-requires c κs = search needs
+scan-requires : tie.Need-scan-requires
+scan-requires c κs = search needs
 
 tell-requires : tie.Need-tell-requires
 tell-requires c κs = search needs
 
-put-connection-requires : tie.Need-put-connection-requires
-put-connection-requires c κs = search needs
+put-seen-requires : tie.Need-put-seen-requires
+put-seen-requires c κs = search needs
 
 put-numbers-requires : tie.Need-put-numbers-requires
 put-numbers-requires c κs = search needs
@@ -40,13 +40,11 @@ returns-3 : tie.Need-returns-3
 returns-3 c =
     let put = c .before .before in
     let connected = put .before .before .before .before in
-    let told = connected .before .before .before .before .before in
-    let read = told .before in
-    let roomy = read .before in
-    let x = roomy .before .before .before .before .before .args in
-    written (verdict (now (x .bytes))) (now (x .numbers)) (now (x .connection)) (read .read .result) (told .tell .result) (now (x .bytes)) _ _
-    (omega arith) (omega arith) (read .read .ensures .answers) (told .tell .ensures) (put .put-numbers .ensures)
-    (connected .put-connection .ensures)
+    let told = connected .before .before in
+    let seen = told .before .before in
+    let x = seen .before .before .before .before .before .before .args in
+    written (verdict (now (x .bytes))) (now (x .numbers)) (now (x .connection)) (seen .scan .result) (told .tell .result) (now (x .bytes)) _ _
+    (omega arith) (omega arith) (seen .scan .ensures .answers) (told .tell .ensures) (put .put-numbers .ensures) (connected .put-seen .ensures)
 
 pub dawnhawse-read-spec : {M : Type 1} → statement M
 dawnhawse-read-spec =
@@ -54,9 +52,9 @@ dawnhawse-read-spec =
     (tie.spec
     returns
     returns-2
-    read-requires
+    scan-requires
     tell-requires
-    put-connection-requires
+    put-seen-requires
     put-numbers-requires
     same-length
     same-length-2

@@ -24,7 +24,7 @@ sub-t13 c =
     let span = c .before .before .before .before in
     let x = span .before .args in
     let ends = span .area-span .ensures in
-    let within = end-within-header (x .reading) (x .size) _ _ (c .before .verdict .given .1) in
+    let within = end-within-header (x .verdict) (x .kind) (x .size) _ _ (c .before .verdict .given .1) in
     omega arith
 
 enum-told : tie.Need-enum-told
@@ -44,15 +44,15 @@ returns c =
     let span = c .before .before .before .before in
     let x = span .before .args in
     let ends = span .area-span .ensures in
-    tells-accepted (x .reading) (x .size) _ _ _ (c .before .verdict .given .1) (ap₂ (λ (e s : ℕ). e - s) (ends .1) (ends .0))
+    tells-accepted (x .verdict) (x .kind) (x .size) _ _ _ (c .before .verdict .given .1) (ap₂ (λ (e s : ℕ). e - s) (ends .1) (ends .0))
 
 returns-2 : tie.Need-returns-2
-returns-2 c = let x = c .before .before .before .before .args in tells-more (x .reading) (x .size) (c .enum-told .given .1)
+returns-2 c = let x = c .before .before .before .before .args in tells-more (x .verdict) (x .kind) (x .size) (c .enum-told .given .1)
 
 returns-3 : tie.Need-returns-3
 returns-3 c =
     let x = c .before .before .before .before .before .before .args in
-    tells-refused (x .reading) (x .size) _ _ _ (c .before .before .verdict2 .given .1) (c .number .ensures)
+    tells-refused (x .verdict) (x .kind) (x .size) _ _ _ (c .before .before .verdict2 .given .1) (c .number .ensures)
 
 pub tell-spec : {M : Type 1} → statement M
 tell-spec =

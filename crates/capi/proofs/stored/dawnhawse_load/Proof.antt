@@ -15,8 +15,8 @@ returns c =
 load-requires : tie.Need-load-requires
 load-requires c κs = search needs
 
-put-connection-requires : tie.Need-put-connection-requires
-put-connection-requires c κs = search needs
+put-record-requires : tie.Need-put-record-requires
+put-record-requires c κs = search needs
 
 outcome-number-requires : tie.Need-outcome-number-requires
 outcome-number-requires c κs = search needs
@@ -27,10 +27,10 @@ same-length c = search needs
 returns-2 : tie.Need-returns-2
 returns-2 c =
     let connected = c .before .before .before in
-    let loaded = connected .before .before .before .before .before in
+    let loaded = connected .before .before .before in
     let x = loaded .before .before .before .before .args in
     load-told (loadAnswer (now (x .stored))) (now (x .connection)) (omega arith) (loaded .load .ensures) (c .outcome-number .ensures)
-    (connected .put-connection .ensures)
+    (connected .put-record .ensures)
 
 pub dawnhawse-load-spec : {M : Type 1} → statement M
 dawnhawse-load-spec =
@@ -38,7 +38,7 @@ dawnhawse-load-spec =
     (tie.spec
     returns
     load-requires
-    put-connection-requires
+    put-record-requires
     outcome-number-requires
     same-length
     returns-2)

@@ -2,10 +2,6 @@ use Rattle.line.specs.AddressLaws.{told6}
 use borrow.Author.Needs.{needs}
 use Rattle.line.proofs.address.address6.Statement.{statement}
 use Rattle.line.proofs.address.address6.Tie as tie
-use Rattle.line.proofs.address.address6.Reads as reads
-use Rattle.line.proofs.address.address6.Lts as lts
-use Rattle.ip6.proofs.address.Reads as address-reads
-use Rattle.line.proofs.address.group_bytes.Reads as group-bytes-reads
 
 address-requires : tie.Need-address-requires
 address-requires c κs = search needs

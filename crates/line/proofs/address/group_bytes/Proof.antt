@@ -5,10 +5,6 @@ use native.Mathlib.Omega.{arith}
 use borrow.Author.Needs.{needs}
 use Rattle.line.proofs.address.group_bytes.Statement.{statement}
 use Rattle.line.proofs.address.group_bytes.Tie as tie
-use Rattle.line.proofs.address.group_bytes.Reads as reads
-use Rattle.line.proofs.address.group_bytes.Lts as lts
-use Rattle.line.proofs.address.high.Reads as high-reads
-use Rattle.line.proofs.address.low.Reads as low-reads
 
 array-read-high : tie.Need-array-read-high
 array-read-high c = search needs

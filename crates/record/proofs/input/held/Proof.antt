@@ -1,42 +1,27 @@
--- The loop's invariant: the first i bytes from the place on are copied over zeros; the measure is what is left of n.
-use Prim.Native.Nat.{ℕ, _-_, _≤_}
-use mathlib.Core.Path.{_≡_, sym, ap, _∙_}
-use mathlib.Core.List.{List}
+-- The loop's invariant: the first i bytes are copied over zeros; the measure is what is left of m.
+use Prim.Native.Nat.{ℕ, _-_, _≤_, min}
+use mathlib.Core.Path.{_≡_, ap, _∙_}
 use native.Mathlib.Omega.{arith}
 use denote.Ref.{now}
-use lib.ListN.{length, take, drop, length-drop}
-use lib.Seq.{paste, paste-zero, take-all, getD-drop}
+use lib.ListN.{length}
+use lib.Seq.{paste, paste-zero}
 use Rattle.record.specs.Records.{held}
 use Rattle.record.specs.HeldLaws.{blank, held-pasted, pasted-next}
+use Rattle.record.specs.PartLaws.{take-least}
 use Rattle.record.proofs.input.held.Statement.{statement}
 use Rattle.record.proofs.input.held.Tie as tie
 
 abbrev Inv-loop : tie.InvT-loop
-Inv-loop block at n address₀ i₀ address i = (i ≤ n) × (i ≤ length (drop at block)) × (address ≡ paste blank 0 (drop at block) i)
+Inv-loop bytes n m address₀ i₀ address i = (i ≤ m) × (m ≤ length bytes) × (m ≤ 108) × (address ≡ paste blank 0 bytes i)
 
 abbrev μ-loop : tie.MeasureT-loop
-μ-loop block at n address₀ i₀ address i = n - i
+μ-loop bytes n m address₀ i₀ address i = m - i
 
--- where n bytes are copied, or all that there are
-copied : (s a : List ℕ) (n i : ℕ) → a ≡ paste blank 0 s i → i ≤ length s → take n s ≡ take i s → a ≡ held (take n s)
-copied s a n i same h e = same ∙ held-pasted s i h ∙ ap held (sym e)
+least-requires : tie.Need-least-requires Inv-loop μ-loop
+least-requires c κs = tt
 
 loop-holds : tie.Need-loop-holds Inv-loop μ-loop
-loop-holds c = (omega arith, omega arith, paste-zero blank 0 (drop (c .args .at) (now (c .args .block))))
-
-add-if1 : tie.Need-add-if1 Inv-loop μ-loop
-add-if1 c = omega arith
-
-returns : tie.Need-returns Inv-loop μ-loop
-returns c =
-    let l = c .before .before in
-    let x = l .before .args in
-    let s = drop (x .at) (now (x .block)) in
-    let size = length-drop (x .at) (now (x .block)) in
-    copied s _ (x .n) (l .loop .i) (l .loop .inv .2) (omega arith) (take-all (x .n) s (omega arith) ∙ sym (take-all (l .loop .i) s (omega arith)))
-
-add-address : tie.Need-add-address Inv-loop μ-loop
-add-address c = omega arith
+loop-holds c = let e = c .least .ensures in (omega arith, omega arith, omega arith, paste-zero blank 0 (now (c .before .before .args .bytes)))
 
 shared-slice-read-address : tie.Need-shared-slice-read-address Inv-loop μ-loop
 shared-slice-read-address c = omega arith
@@ -52,23 +37,21 @@ loop-less c = omega arith
 
 loop-again : tie.Need-loop-again Inv-loop μ-loop
 loop-again c =
-    let l = c .before .before .before in
-    let x = l .before .args in
-    let s = drop (x .at) (now (x .block)) in
-    let size = length-drop (x .at) (now (x .block)) in (
-      omega arith,
-      omega arith,
-      rw (← (getD-drop (x .at) (now (x .block)) (l .loop .i) 0))
-          (pasted-next s (l .loop .i) _ (l .loop .inv .2) (omega arith) (omega arith)),
-    )
+    let l = c .before .before in
+    let x = l .before .before .before .args in
+    (omega arith, omega arith, omega arith, pasted-next (now (x .bytes)) (l .loop .i) _ (l .loop .inv .3) (omega arith) (omega arith))
 
-returns-2 : tie.Need-returns-2 Inv-loop μ-loop
-returns-2 c =
+returns : tie.Need-returns Inv-loop μ-loop
+returns c =
     let l = c .before in
-    let x = l .before .args in
-    let s = drop (x .at) (now (x .block)) in
-    let same : x .n ≡ l .loop .i = omega arith in
-    copied s _ (x .n) (l .loop .i) (l .loop .inv .2) (l .loop .inv .1) (ap (λ (m : ℕ). take m s) same)
+    let x = l .before .before .before .args in
+    let s = now (x .bytes) in
+    let e = l .before .least .ensures in
+    let here : l .loop .i ≡ min (x .n) (length s) = omega arith in
+    l .loop .inv .3
+    ∙ ap (λ (m : ℕ). paste blank 0 s m) here
+    ∙ held-pasted s (min (x .n) (length s)) (omega arith)
+    ∙ ap held (take-least (x .n) s)
 
 pub held-spec : {M : Type 1} → statement M
 held-spec =
@@ -76,13 +59,11 @@ held-spec =
     (tie.spec
     Inv-loop
     μ-loop
+    least-requires
     loop-holds
-    add-if1
-    returns
-    add-address
     shared-slice-read-address
     array-write-address
     add-i
     loop-less
     loop-again
-    returns-2)
+    returns)

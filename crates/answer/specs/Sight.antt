@@ -1,0 +1,41 @@
+-- What is seen in the bytes read, as a reading of them.
+use mathlib.Core.Bool.{Bool, false}
+use mathlib.Core.List.{List}
+use Prim.Native.Nat.{ℕ}
+use lib.Dec.{eqb}
+use lib.ListN.{take, drop, replicate}
+use Rattle.exact.specs.Pick.{pick}
+use Rattle.record.specs.declared.Kind.{Kind}
+use Rattle.record.specs.declared.Record.{Record}
+use Rattle.record.specs.Kinds.{addressLength}
+use Rattle.record.specs.Records.{recordOf}
+use Rattle.record.specs.AddressBlock.{blockRecord}
+use Rattle.answer.specs.declared.Verdict.{Verdict}
+use Rattle.answer.specs.declared.Verdict.the-variants.{Accepted, More, Refused}
+use Rattle.answer.specs.declared.Reading.{Reading}
+use Rattle.answer.specs.declared.Caller.{Caller}
+use Rattle.answer.specs.declared.Seen.{Seen}
+
+-- a caller of whom only the kind is known
+abbrev pub kindOnly : Kind → Caller
+kindOnly k =
+    record { kind = k; source = replicate 16 0; destination = replicate 16 0; «source_port» = 0; «destination_port» = 0 }
+
+-- the record of a caller, as a text line says it
+abbrev pub callerRecord : Caller → Record
+callerRecord c =
+    recordOf (c .kind) (take (addressLength (c .kind)) (c .source)) (take (addressLength (c .kind)) (c .destination)) (c .«source_port»)
+    (c .«destination_port»)
+
+-- whether the addresses stand in the bytes read: those of a version 2 header do
+abbrev pub inBytes : Verdict → Bool
+inBytes (Accepted n v) = eqb v 2
+inBytes More = false
+inBytes (Refused k p) = false
+
+-- the record of what is seen in the bytes s: the address block of a version 2 header begins at 16
+abbrev pub recordBy : Verdict → List ℕ → Caller → Record
+recordBy v s c = pick (inBytes v) (blockRecord (c .kind) (drop 16 s)) (callerRecord c)
+
+abbrev pub readingOf : List ℕ → Seen → Reading
+readingOf s x = record { verdict = x .verdict; «record» = recordBy (x .verdict) s (x .caller) }

@@ -1,0 +1,44 @@
+-- The first byte tells the version, and each version's reader answers its field's verdict.
+use Rattle.reader.specs.ReadLaws.{reads-as, none-yet, of-line, of-block}
+use borrow.Author.Needs.{needs}
+use Rattle.reader.proofs.scan.Statement.{statement}
+use Rattle.reader.proofs.scan.Tie as tie
+
+more-requires : tie.Need-more-requires
+more-requires c κs = search needs
+
+returns : tie.Need-returns
+returns c =
+    let start = c .before .before .before in
+    reads-as (c .more .ensures (start .args .s .now)) (none-yet (start .args .s .now) (c .before .if1 .taken))
+
+shared-slice-read-if2 : tie.Need-shared-slice-read-if2
+shared-slice-read-if2 c = search needs
+
+line-requires : tie.Need-line-requires
+line-requires c κs = search needs
+
+block-requires : tie.Need-block-requires
+block-requires c κs = search needs
+
+returns-2 : tie.Need-returns-2
+returns-2 c =
+    let start = c .before .before .before .before .before in
+    reads-as (c .line .ensures) (of-line (start .args .s .now) (c .before .before .before .if1 .left) (c .before .if2 .taken))
+
+returns-3 : tie.Need-returns-3
+returns-3 c =
+    let start = c .before .before .before .before .before in
+    reads-as (c .block .ensures) (of-block (start .args .s .now) (c .before .before .before .if1 .left) (c .before .if2 .left))
+
+pub scan-spec : {M : Type 1} → statement M
+scan-spec =
+    tie.close
+    (tie.spec
+    more-requires
+    returns
+    shared-slice-read-if2
+    line-requires
+    block-requires
+    returns-2
+    returns-3)
