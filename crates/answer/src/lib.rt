@@ -66,7 +66,7 @@ pub fn blank(kind: Kind) -> Record
     }
 }
 
-// Who is calling, as a text line says it: the addresses stand at the front of their arrays, and what the kind does not use is zero.
+// Who is calling, as a text line says it: the addresses stand at the front of their arrays, and what is behind them is not looked at.
 pub struct Caller {
     pub kind: Kind,
     pub source: [u8; 16],
