@@ -1,3 +1,4 @@
 pub mod Answers
 pub mod Sight
 pub mod StageLaws
+pub mod OutputLaws

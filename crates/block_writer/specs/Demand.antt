@@ -7,7 +7,7 @@ use mathlib.Core.Logic.{inr}
 use Prim.Native.Nat.{ℕ, _≤_, _<_}
 use native.Mathlib.Omega.{arith}
 use lib.Dec.{leb, ltb}
-use lib.ListN.{length, length-append}
+use lib.ListN.{length, take, length-append}
 use lib.Seq.{take-append-seam}
 use borrow.Author.Tests.{le-leb, leb-true, leb-false, lt-ltb, ltb-true, ltb-false}
 use Rattle.exact.specs.Claim.{Verdict, accepted}
@@ -26,6 +26,8 @@ use Rattle.header.specs.Facts.{header-length}
 use Rattle.answer.specs.declared.Fault.the-variants.{Unused, Area, Size, Room}
 use Rattle.answer.specs.declared.Written.{Written}
 use Rattle.answer.specs.declared.Written.the-variants.{Bytes, Refused}
+use Rattle.answer.specs.Answers.{outputAfter}
+use Rattle.answer.specs.OutputLaws.{written-front}
 use Rattle.block_writer.specs.Areas.{areaTest}
 use Rattle.block_writer.specs.AreaLaws.{AreaFits, area-test}
 use Rattle.block_writer.specs.Written.{blockOf, writtenBlock, CarriedByBlock, blockAnswer}
@@ -107,6 +109,18 @@ pub block-demand : (r : Record) (area : List ℕ) (room n : ℕ) → Sized r →
 block-demand r area room n sized e t =
     let a = accepts r area room n sized e in
     subst (λ (m : ℕ). Judges (accepted (blocked r area) m) (writtenBlock r area ++ t)) (a .1) (block-read r area (a .0) t)
+
+-- the same of an output: the n bytes that the writer answers, with any bytes behind them, are accepted with the record and the area
+abbrev pub ReadsBack : Record → List ℕ → Written → List ℕ → Type 0
+ReadsBack r area answer output = (n : ℕ) → answer ≡ Bytes n → (t : List ℕ) → Judges (accepted (blocked r area) n) (take n output ++ t)
+
+pub reads-back : (r : Record) (area before after : List ℕ) (answer : Written) → Sized r → answer ≡ blockAnswer r area (length before)
+    → after ≡ outputAfter answer (writtenBlock r area) before → ReadsBack r area answer after
+reads-back r area before after answer sized e output n is t =
+    let answered : blockAnswer r area (length before) ≡ Bytes n = sym e ∙ is in
+    let size = accepts r area (length before) n sized answered .1 in
+    let front = written-front (writtenBlock r area) before after answer n is size output in
+    subst (λ (f : List ℕ). Judges (accepted (blocked r area) n) (f ++ t)) (sym front) (block-demand r area (length before) n sized answered t)
 
 -- so the TLV list that is read is the one that was written
 pub block-tlvs : (r : Record) (area : List ℕ) (room n : ℕ) → Sized r → blockAnswer r area room ≡ Bytes n

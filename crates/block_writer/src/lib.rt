@@ -15,6 +15,7 @@ ghost use lib.ListN.{length};
 ghost use Rattle.record.specs.Placed.{placed};
 ghost use Rattle.block_writer.specs.Areas.{areaTest};
 ghost use Rattle.block_writer.specs.Written.{commandOf, headOf, writtenBlock, blockAnswer};
+ghost use Rattle.block_writer.specs.Demand.{ReadsBack};
 ghost use Rattle.answer.specs.Answers.{outputAfter};
 
 // Whether the area may stand beside the kind: TLVs fill it, and it is empty beside local and unspecified.
@@ -71,7 +72,9 @@ fn put_head(kind: Kind, n: usize, out: &mut [u8])
 
 // Writes the record with the TLV area behind its address block: how many bytes, or why the output stays as it was.
 pub fn write_block(connection: Record, area: &[u8], out: &mut [u8]) -> Written
-    ensures { λ r. ⌜ (r ≡ blockAnswer connection (now (area .entry)) (length (now (out .entry)))) × (now (out .exit) ≡ outputAfter r (writtenBlock connection (now (area .entry))) (now (out .entry))) ⌝ }
+    ensures { λ r. ⌜ (r ≡ blockAnswer connection (now (area .entry)) (length (now (out .entry))))
+        × (now (out .exit) ≡ outputAfter r (writtenBlock connection (now (area .entry))) (now (out .entry)))
+        × ReadsBack connection (now (area .entry)) r (now (out .exit)) ⌝ }
 {
     let kind = connection.kind;
     if !clean(connection) {

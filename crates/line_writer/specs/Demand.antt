@@ -1,14 +1,14 @@
 -- Demand 2 of document 01 for version 1: what the writer writes reads back as the record, and it refuses exactly the records that version 1 cannot carry
 -- and the outputs that are too short.
-use mathlib.Core.Path.{_≡_, refl, sym, ap, _∙_, subst}
+use mathlib.Core.Path.{_≡_, refl, sym, _∙_, subst}
 use mathlib.Core.Bool.{true, false}
 use mathlib.Core.List.{List, _++_}
 use mathlib.Core.Logic.{inl}
 use Prim.Native.Nat.{ℕ, _+_, _≤_, _<_}
 use native.Mathlib.Omega.{arith}
 use lib.Dec.{leb}
-use lib.ListN.{length, take, drop, length-append}
-use lib.Seq.{take-append-seam, take-at}
+use lib.ListN.{length, take, length-append}
+use lib.Seq.{take-append-seam}
 use borrow.Author.Tests.{le-leb, leb-true, leb-false}
 use Rattle.exact.specs.Claim.{accepted}
 use Rattle.exact.specs.Pick.{pick-by}
@@ -26,6 +26,7 @@ use Rattle.answer.specs.declared.Fault.the-variants.{Form, Unused, Room}
 use Rattle.answer.specs.declared.Written.{Written}
 use Rattle.answer.specs.declared.Written.the-variants.{Bytes, Refused}
 use Rattle.line_writer.specs.Written.{hasForm, writtenLine, CarriedByLine, lineAnswer}
+use Rattle.answer.specs.OutputLaws.{written-front}
 use Rattle.answer.specs.Answers.{outputAfter}
 use Rattle.line_writer.specs.LineLaws.{line-of, tcp4-line, tcp6-line}
 
@@ -87,8 +88,7 @@ pub reads-back : (r : Record) (before after : List ℕ) (answer : Written) → S
 reads-back r before after answer sized e output n is t =
     let answered : lineAnswer r (length before) ≡ Bytes n = sym e ∙ is in
     let size = line-accepted r (length before) n sized answered .1 in
-    let held : after ≡ writtenLine r ++ drop n before = output ∙ ap (λ (a : Written). outputAfter a (writtenLine r) before) is in
-    let front : take n after ≡ writtenLine r = ap (take n) held ∙ take-at (writtenLine r) (drop n before) n size in
+    let front = written-front (writtenLine r) before after answer n is size output in
     subst (λ (f : List ℕ). Judges (accepted (lined r) n) (f ++ t)) (sym front) (line-demand r (length before) n sized answered t)
 
 -- "Longest TCP4 line 56 bytes, TCP6 104"; an UNKNOWN line is written with 15

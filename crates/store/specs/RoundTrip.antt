@@ -7,7 +7,7 @@ use Prim.Native.Nat.{ℕ, _+_, _≤_, _<_}
 use native.Mathlib.Omega.{arith}
 use borrow.Author.Tests.{eqb-true, ltb-false, le-leb, leb-true, leb-false}
 use lib.Dec.{eqb, ltb, leb}
-use lib.ListN.{length, drop, getD, length-drop}
+use lib.ListN.{length, take, drop, getD, length-drop}
 use Rattle.exact.specs.Claim.{AllBytes}
 use Rattle.exact.specs.Pick.{pick-by}
 use Rattle.record.specs.declared.Transport.the-variants.{Stream}
@@ -23,6 +23,8 @@ use Rattle.record.specs.AddressBlockLaws.{block-size, bytes-drop, record-again,
 use Rattle.answer.specs.declared.Fault.the-variants.{Unused, Room}
 use Rattle.answer.specs.declared.Written.{Written}
 use Rattle.answer.specs.declared.Written.the-variants.{Bytes, Refused}
+use Rattle.answer.specs.Answers.{outputAfter}
+use Rattle.answer.specs.OutputLaws.{written-front}
 use Rattle.store.specs.declared.Flaw.{Flaw}
 use Rattle.store.specs.declared.Loaded.{Loaded}
 use Rattle.store.specs.Stored.{kindOf, stored, storeAnswer}
@@ -141,3 +143,13 @@ store-read r room n sized e = by (storeAnswer r room) e (answer-means r room siz
     by : (a : Written) → a ≡ Bytes n → Means r room a → (loadAnswer (stored r) ≡ acceptedAs r) × (length (stored r) ≡ n)
     by (Refused f) q m = let z : _≡_ {A = ℕ} 0 1 = cc in absurd (omega arith)
     by (Bytes m) q (written clean fits) = (load-stored r sized clean, cc)
+
+-- the same of an output: the n bytes that the writer answers are loaded as the record
+abbrev pub LoadsBack : Record → Written → List ℕ → Type 0
+LoadsBack r answer output = (n : ℕ) → answer ≡ Bytes n → loadAnswer (take n output) ≡ acceptedAs r
+
+pub loads-back : (r : Record) (before after : List ℕ) (answer : Written) → Sized r → answer ≡ storeAnswer r (length before)
+    → after ≡ outputAfter answer (stored r) before → LoadsBack r answer after
+loads-back r before after answer sized e output n is =
+    let read = store-read r (length before) n sized (sym e ∙ is) in
+    ap loadAnswer (written-front (stored r) before after answer n is (read .1) output) ∙ read .0

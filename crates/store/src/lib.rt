@@ -18,6 +18,7 @@ ghost use Prim.Native.Nat.{_≤_};
 ghost use lib.ListN.{length};
 ghost use Rattle.record.specs.Told.{toldFamily};
 ghost use Rattle.store.specs.Stored.{codeOf, kindOf, stored, storeAnswer};
+ghost use Rattle.store.specs.RoundTrip.{LoadsBack};
 ghost use Rattle.answer.specs.Answers.{outputAfter};
 ghost use Rattle.store.specs.Loading.{hasMark, hasVersion, refusedFor, loadAnswer};
 
@@ -67,7 +68,9 @@ pub fn kind_of(code: u8) -> Family
 
 // Writes the record: how many bytes, or why the output stays as it was.
 pub fn store(connection: Record, out: &mut [u8]) -> Written
-    ensures { λ r. ⌜ (r ≡ storeAnswer connection (length (now (out .entry)))) × (now (out .exit) ≡ outputAfter r (stored connection) (now (out .entry))) ⌝ }
+    ensures { λ r. ⌜ (r ≡ storeAnswer connection (length (now (out .entry))))
+        × (now (out .exit) ≡ outputAfter r (stored connection) (now (out .entry)))
+        × LoadsBack connection r (now (out .exit)) ⌝ }
 {
     let kind = connection.kind;
     if !clean(connection) {

@@ -19,7 +19,10 @@ use Rattle.record.specs.PlacedLaws.{placed-then, placed-start}
 use Rattle.record.proofs.InMemory.{in-memory}
 use Rattle.header.specs.BlockFields.{block-small}
 use Rattle.block_writer.specs.Areas.{areaTest}
-use Rattle.block_writer.specs.Written.{headOf, blockOf, writtenBlock}
+use Rattle.answer.specs.declared.Written.{Written}
+use Rattle.answer.specs.Answers.{outputAfter}
+use Rattle.block_writer.specs.Written.{headOf, blockOf, writtenBlock, blockAnswer}
+use Rattle.block_writer.specs.Demand.{ReadsBack, reads-back}
 use Rattle.block_writer.specs.WrittenLaws.{answer-unused, answer-area, answer-size, answer-room, answer-bytes, block-length, written-length}
 use Rattle.block_writer.proofs.write_block.Statement.{statement}
 use Rattle.block_writer.proofs.write_block.Tie as tie
@@ -62,8 +65,17 @@ module _ (c : tie.After-clean) where
   sized : Sized connection
   sized = in-memory connection _ (c .before .before .before .good .0)
 
+-- an answer and an output as defined are what is promised, since the record is one in memory
+promise : (c : tie.After-clean) {answer : Written} {after : List ℕ} → answer ≡ blockAnswer (connection c) (area c) (room c)
+    → after ≡ outputAfter answer (writtenBlock (connection c) (area c)) (now (c .before .before .before .args .out))
+    → (answer ≡ blockAnswer (connection c) (area c) (room c))
+    × (after ≡ outputAfter answer (writtenBlock (connection c) (area c)) (now (c .before .before .before .args .out)))
+    × ReadsBack (connection c) (area c) answer after
+promise c {answer} {after} e o =
+    (e, o, reads-back (connection c) (area c) (now (c .before .before .before .args .out)) after answer (sized c) e o)
+
 returns : tie.Need-returns
-returns c = (answer-unused (connection (c .before)) _ _ (sym (c .before .clean .ensures) ∙ not-true _ (c .if1 .taken)), refl)
+returns c = promise (c .before) (answer-unused (connection (c .before)) _ _ (sym (c .before .clean .ensures) ∙ not-true _ (c .if1 .taken))) refl
 
 area-fits-requires : tie.Need-area-fits-requires
 area-fits-requires c κs = search needs
@@ -72,10 +84,9 @@ cleaned : (c : tie.Else1) → cleanTest (connection (c .before)) ≡ true
 cleaned c = sym (c .before .clean .ensures) ∙ not-false _ (c .if1 .left)
 
 returns-2 : tie.Need-returns-2
-returns-2 c = (
-  answer-area (connection (c .before .before .before)) _ _ (cleaned (c .before .before)) (sym (c .before .area-fits .ensures) ∙ not-true _ (c .if2 .taken)),
-  refl,
-)
+returns-2 c =
+    let first = c .before .before .before in
+    promise first (answer-area (connection first) _ _ (cleaned (c .before .before)) (sym (c .before .area-fits .ensures) ∙ not-true _ (c .if2 .taken))) refl
 
 block-length-requires : tie.Need-block-length-requires
 block-length-requires c κs = search needs
@@ -105,7 +116,7 @@ returns-3 c =
     let d = c .before in
     let h = few d in
     let l = in-block d in
-    (answer-size (connection (first d)) (area (first d)) _ (cleaned (d .before .before .before)) (fitting d) (omega arith), refl)
+    promise (first d) (answer-size (connection (first d)) (area (first d)) _ (cleaned (d .before .before .before)) (fitting d) (omega arith)) refl
 
 add-n : tie.Need-add-n
 add-n c = search needs
@@ -119,7 +130,8 @@ returns-4 c =
     let h = few d in
     let l = in-block d in
     let w = in-all d in
-    (answer-room (connection (first d)) (area (first d)) _ (cleaned (d .before .before .before)) (fitting d) (omega arith) (omega arith), refl)
+    promise (first d)
+    (answer-room (connection (first d)) (area (first d)) _ (cleaned (d .before .before .before)) (fitting d) (omega arith) (omega arith)) refl
 
 put-head-requires : tie.Need-put-head-requires
 put-head-requires c κs = let h = few (c .before .before .before) in omega arith
@@ -151,12 +163,12 @@ returns-5 c =
     let l = in-block d in
     let w = in-all d in
     let x = connection (first d) in
-    let n = d .block-length .result in (
-      answer-bytes x (area (first d)) _ (cleaned (d .before .before .before)) (fitting d) (16 + (n + length (area (first d)))) (omega arith) (omega arith)
-          (omega arith),
-      whole x (area (first d)) (sized (first d)) n _ _ _ _ (d .block-length .ensures) (omega arith) (c₁ .put-head .ensures) (c₂ .put-addresses .ensures)
-          (c₃ .put .ensures),
-    )
+    let n = d .block-length .result in
+    promise (first d)
+    (answer-bytes x (area (first d)) _ (cleaned (d .before .before .before)) (fitting d) (16 + (n + length (area (first d)))) (omega arith) (omega arith)
+    (omega arith))
+    (whole x (area (first d)) (sized (first d)) n _ _ _ _ (d .block-length .ensures) (omega arith) (c₁ .put-head .ensures) (c₂ .put-addresses .ensures)
+    (c₃ .put .ensures))
 
 pub write-block-spec : {M : Type 1} → statement M
 write-block-spec =

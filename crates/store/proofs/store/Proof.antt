@@ -6,6 +6,7 @@ use mathlib.Core.List.{List, [], _∷_, _++_}
 use native.Mathlib.Omega.{arith}
 use borrow.Author.Needs.{needs}
 use borrow.Author.Tests.{not-true, not-false, le-leb, lt-leb}
+use denote.Ref.{now}
 use lib.ListN.{length, drop, length-append}
 use Rattle.record.specs.declared.Record.{Record}
 use Rattle.record.specs.Kinds.{blockLength}
@@ -17,9 +18,11 @@ use Rattle.record.specs.Placed.{placed}
 use Rattle.record.specs.PlacedLaws.{placed-then, placed-start}
 use Rattle.record.proofs.InMemory.{in-memory}
 use Rattle.answer.specs.declared.Fault.the-variants.{Unused, Room}
+use Rattle.answer.specs.declared.Written.{Written}
 use Rattle.answer.specs.declared.Written.the-variants.{Bytes, Refused}
+use Rattle.answer.specs.Answers.{outputAfter}
 use Rattle.store.specs.Stored.{mark, formVersion, codeOf, stored, storeAnswer}
-use Rattle.store.specs.RoundTrip.{stored-length}
+use Rattle.store.specs.RoundTrip.{stored-length, LoadsBack, loads-back}
 use Rattle.store.proofs.store.Statement.{statement}
 use Rattle.store.proofs.store.Tie as tie
 
@@ -60,8 +63,16 @@ module _ (c : tie.After-clean) where
   sized : Sized connection
   sized = in-memory connection _ (c .before .before .good .0)
 
+-- an answer and an output as defined are what is promised, since the record is one in memory
+promise : (c : tie.After-clean) {answer : Written} {after : List ℕ} → answer ≡ storeAnswer (connection c) (length (now (c .before .before .args .out)))
+    → after ≡ outputAfter answer (stored (connection c)) (now (c .before .before .args .out))
+    → (answer ≡ storeAnswer (connection c) (length (now (c .before .before .args .out))))
+    × (after ≡ outputAfter answer (stored (connection c)) (now (c .before .before .args .out)))
+    × LoadsBack (connection c) answer after
+promise c {answer} {after} e o = (e, o, loads-back (connection c) (now (c .before .before .args .out)) after answer (sized c) e o)
+
 returns : tie.Need-returns
-returns c = (answer-unused (connection (c .before)) _ (sym (c .before .clean .ensures) ∙ not-true _ (c .if1 .taken)), refl)
+returns c = promise (c .before) (answer-unused (connection (c .before)) _ (sym (c .before .clean .ensures) ∙ not-true _ (c .if1 .taken))) refl
 
 block-length-requires : tie.Need-block-length-requires
 block-length-requires c κs = search needs
@@ -90,7 +101,7 @@ returns-2 : tie.Need-returns-2
 returns-2 c =
     let d = c .before in
     let l = in-all d in
-    (answer-room (connection (first d)) _ (cleaned d) (omega arith), refl)
+    promise (first d) (answer-room (connection (first d)) _ (cleaned d) (omega arith)) refl
 
 code-of-requires : tie.Need-code-of-requires
 code-of-requires c κs = search needs
@@ -115,11 +126,10 @@ returns-3 c =
     let d = coded .before .before in
     let x = connection (first d) in
     let e = d .block-length .ensures in
-    let fits = coded .before .if2 .left in (
-      answer-bytes x _ (6 + d .block-length .result) (cleaned d) (in-all d) (omega arith),
-      whole x (sized (first d)) (coded .code-of .result) (6 + d .block-length .result) _ _ _ (coded .code-of .ensures) (omega arith) (omega arith)
-          (c₁ .put .ensures) (c₂ .put-addresses .ensures),
-    )
+    let fits = coded .before .if2 .left in
+    promise (first d) (answer-bytes x _ (6 + d .block-length .result) (cleaned d) (in-all d) (omega arith))
+    (whole x (sized (first d)) (coded .code-of .result) (6 + d .block-length .result) _ _ _ (coded .code-of .ensures) (omega arith) (omega arith)
+    (c₁ .put .ensures) (c₂ .put-addresses .ensures))
 
 pub store-spec : {M : Type 1} → statement M
 store-spec =
