@@ -1,4 +1,4 @@
-//! Compiles the C parser, and links it and the proved library, which `rt staticlib capi` writes.
+//! Compiles the C parser and links it; the proved library is linked by `compare`.
 use std::process::Command;
 
 fn main() {
@@ -11,11 +11,6 @@ fn main() {
     println!("cargo:rerun-if-changed=parser.h");
     println!("cargo:rustc-link-search=native={out}");
     println!("cargo:rustc-link-lib=static=parser");
-
-    let folder = format!("{here}/../target/staticlib");
-    println!("cargo:rerun-if-changed={folder}/libcapi.a");
-    println!("cargo:rustc-link-search=native={folder}");
-    println!("cargo:rustc-link-lib=static=capi");
 }
 
 fn done(command: &mut Command) {

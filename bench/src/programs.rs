@@ -1,9 +1,8 @@
 //! The three programs under one roof: the proved library through its C interface, the C parser, and the second program.
 use crate::inputs::Input;
-use second::{Record, Verdict};
+use compare::connection::{self, SIZE as CONNECTION};
+use second::Verdict;
 use std::hint::black_box;
-
-const CONNECTION: usize = 221;
 
 extern "C" {
     /// include/dawnhawse.h
@@ -102,15 +101,9 @@ fn second_answer(verdict: &Verdict) -> Answer {
         Verdict::Accepted(header) => {
             let area = &header.tlv_area;
             let numbers = [header.length as u64, u64::from(header.version), area.start as u64, area.len() as u64];
-            Answer::Accepted(Box::new(Reading { numbers, connection: connection(&header.record) }))
+            Answer::Accepted(Box::new(Reading { numbers, connection: connection::bytes(&header.record) }))
         }
         Verdict::More => Answer::More,
         Verdict::Refused { .. } => Answer::Refused,
     }
-}
-
-fn connection(record: &Record) -> [u8; CONNECTION] {
-    let kind = [record.kind.family_byte().expect("the inputs have addresses")];
-    let ports = [record.source_port.to_be_bytes(), record.destination_port.to_be_bytes()].concat();
-    [&kind[..], &record.source, &record.destination, &ports].concat().try_into().expect("1 + 108 + 108 + 4 bytes")
 }
