@@ -3,9 +3,9 @@
  *
  * Link with target/staticlib/libcapi.a (`rt staticlib capi` makes it, for x86-64 Linux).
  *
- * The library allocates nothing, keeps nothing between calls, and calls nothing. It reads only the bytes lent to it and
- * writes only into the buffers lent to it. What each function answers, and what each buffer then holds, is proved for every
- * input. A caller owes this:
+ * The library allocates nothing, keeps nothing between calls, and calls nothing but memcpy and its like. It reads only the
+ * bytes lent to it and writes only into the buffers lent to it. What each function answers, and what each buffer then holds,
+ * is proved for every input. A caller owes this:
  *
  *   - a pointer is not NULL, even where its length is 0;
  *   - a pointer is aligned for its type, and its length is the number of elements that may be used behind it;
