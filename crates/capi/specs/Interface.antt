@@ -40,6 +40,10 @@ connectionBytes r =
 abbrev pub over : List ℕ → List ℕ → List ℕ
 over front buffer = front ++ drop (length front) buffer
 
+-- the same where the buffer has room for n elements; else it stays as it was
+abbrev pub toldIn : ℕ → List ℕ → List ℕ → List ℕ
+toldIn n front buffer = pick (leb n (length buffer)) (over front buffer) buffer
+
 -- "the output is shorter than what must be written": room for 4 numbers and 221 bytes
 abbrev pub roomFor : List ℕ → List ℕ → Bool
 roomFor numbers connection = pick (leb 4 (length numbers)) (leb 221 (length connection)) false

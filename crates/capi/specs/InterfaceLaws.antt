@@ -4,7 +4,7 @@ use mathlib.Core.Bool.{Bool, true, false}
 use mathlib.Core.List.{List, [], _∷_, _++_, append-nil}
 use Prim.Native.Nat.{ℕ, _-_, _≤_, _<_, min}
 use native.Mathlib.Omega.{arith}
-use lib.Dec.{eqb}
+use lib.Dec.{eqb, leb}
 use lib.ListN.{length, take, drop, set, replicate, length-take, length-drop, length-append}
 use borrow.Author.Tests.{le-leb, lt-leb}
 use Rattle.exact.specs.Claim as Claim
@@ -29,7 +29,7 @@ use Rattle.answer.specs.Answers.{Answers, toldVerdict, bareUnless, areaOf, numb
 use Rattle.reader.specs.Area.{areaBy, blockEnd, areaStart, areaEnd}
 use Rattle.reader.specs.AreaLaws.{area-inside, area-part}
 use Rattle.capi.specs.declared.numbers.Told.{Told}
-use Rattle.capi.specs.Interface.{answerNumber, numbersOf, spokenRecord, connectionBytes, over, roomFor, readAnswer, readNumbers, readConnection}
+use Rattle.capi.specs.Interface.{answerNumber, numbersOf, spokenRecord, connectionBytes, over, toldIn, roomFor, readAnswer, readNumbers, readConnection}
 
 -- what is told of a verdict on size bytes and a kind: the answer and the numbers of the verdict that a reading with both answers
 pub record Tells (w : Verdict) (kind : Kind) (size : ℕ) (r : Told) : Type 0 where
@@ -110,6 +110,14 @@ four-stores (w ∷ x ∷ y ∷ []) a b c e h = absurd (omega arith)
 four-stores (w ∷ x ∷ y ∷ z ∷ d) a b c e h = refl
 
 -- ── the room ──
+-- a choice by the room for n elements
+module _ {T : Type 0} (n : ℕ) (buffer : List ℕ) (a b : T) where
+  pub roomy : n ≤ length buffer → a ≡ pick (leb n (length buffer)) a b
+  roomy h = ap (λ (x : Bool). pick x a b) (sym (le-leb n (length buffer) h))
+
+  pub cramped : length buffer < n → b ≡ pick (leb n (length buffer)) a b
+  cramped h = ap (λ (x : Bool). pick x a b) (sym (lt-leb n (length buffer) h))
+
 pub room : (numbers connection : List ℕ) → 4 ≤ length numbers → 221 ≤ length connection → roomFor numbers connection ≡ true
 room numbers connection h k = simp (le-leb 4 (length numbers) h, le-leb 221 (length connection) k)
 
@@ -187,16 +195,18 @@ module _ (v : Claim.Verdict Header) (numbers connection : List ℕ) where
   )
 
   pub written : (seen : Seen) (r : Told) (s n c : List ℕ) → 4 ≤ length numbers → 221 ≤ length connection → Answers s v (readingOf s seen)
-      → Tells (seen .verdict) (seen .caller .kind) (length s) r → n ≡ over (r .first ∷ r .second ∷ r .start ∷ r .length ∷ []) numbers
-      → c ≡ over (connectionBytes (recordBy (seen .verdict) s (seen .caller))) connection → Left (r .answer) n c
+      → Tells (seen .verdict) (seen .caller .kind) (length s) r → n ≡ toldIn 4 (r .first ∷ r .second ∷ r .start ∷ r .length ∷ []) numbers
+      → c ≡ toldIn 221 (connectionBytes (recordBy (seen .verdict) s (seen .caller))) connection → Left (r .answer) n c
   written seen r s n c h k a t en ec =
       let e = room numbers connection h k in
       let reading = readingOf s seen in (
         t .answer s v reading refl a ∙ ap (λ (b : Bool). pick b (answerNumber v) 14) (sym e),
         en
+            ∙ sym (roomy 4 numbers _ _ h)
             ∙ ap (λ (l : List ℕ). over l numbers) (t .numbers s v reading refl (kind-seen (seen .verdict) s (seen .caller)) refl a)
             ∙ ap (λ (b : Bool). pick b (over (numbersOf v) numbers) numbers) (sym e),
         ec
+            ∙ sym (roomy 221 connection _ _ k)
             ∙ ap (λ (x : Record). over (connectionBytes x) connection) (sym (spoken a))
             ∙ ap (λ (b : Bool). pick b (over (connectionBytes (spokenRecord v)) connection) connection) (sym e),
       )

@@ -8,7 +8,7 @@ use Rattle.store.specs.declared.Outcome.{Outcome}
 use Rattle.store.specs.declared.Outcome.the-variants.{Accepted, Refused}
 use Rattle.store.specs.declared.Loaded.{Loaded}
 use Rattle.store.specs.Loading.{flawNumber}
-use Rattle.capi.specs.Interface.{connectionBytes, over}
+use Rattle.capi.specs.Interface.{connectionBytes, toldIn}
 
 -- 0 is accepted; else "15, 16, 17, 18"
 abbrev pub outcomeNumber : Outcome → ℕ
@@ -20,5 +20,4 @@ abbrev pub loadedNumber : Loaded → List ℕ → ℕ
 loadedNumber l connection = pick (leb 221 (length connection)) (outcomeNumber (l .outcome)) 14
 
 abbrev pub loadedConnection : Loaded → List ℕ → List ℕ
-loadedConnection l connection =
-    pick (leb 221 (length connection)) (over (connectionBytes (l .«record»)) connection) connection
+loadedConnection l connection = toldIn 221 (connectionBytes (l .«record»)) connection

@@ -12,7 +12,7 @@ use Rattle.lookup.specs.Lookup.{LooksUp}
 use Rattle.walker.specs.declared.Shown.{Shown}
 use Rattle.walker.specs.declared.Shown.the-variants.{Tlv, End, Refused}
 use Rattle.walker.specs.Step.{startOf, lengthOf, placeAfter}
-use Rattle.capi.specs.Interface.{over}
+use Rattle.capi.specs.Interface.{toldIn}
 
 -- "An ill-formed area: 12"; 0 is found, 253 absent, 254 gave up
 abbrev pub lookupNumber : Answer → ℕ
@@ -30,7 +30,7 @@ pub record LookedUp (area : List ℕ) (wanted limit : ℕ) (numbers : List ℕ) 
   pub examined : Examined
   pub looks : LooksUp area wanted limit examined
   pub answers : answer ≡ pick (leb 4 (length numbers)) (lookupNumber (examined .answer)) 14
-  pub left : after ≡ pick (leb 4 (length numbers)) (over (lookupNumbers wanted examined) numbers) numbers
+  pub left : after ≡ toldIn 4 (lookupNumbers wanted examined) numbers
 
 -- "the step answers 12"; 0 is a TLV shown, 252 the end
 abbrev pub stepNumber : Shown → ℕ
@@ -52,4 +52,4 @@ abbrev pub stepAnswer : Shown → List ℕ → ℕ
 stepAnswer shown numbers = pick (leb 4 (length numbers)) (stepNumber shown) 14
 
 abbrev pub stepLeft : ℕ → Shown → List ℕ → List ℕ
-stepLeft at shown numbers = pick (leb 4 (length numbers)) (over (stepNumbers at shown) numbers) numbers
+stepLeft at shown numbers = toldIn 4 (stepNumbers at shown) numbers

@@ -17,7 +17,8 @@ use Rattle.answer.specs.declared.Written.{Written}
 use Rattle.answer.specs.Answers.{outputAfter}
 use Rattle.store.specs.Stored.{kindOf}
 use Rattle.capi.specs.declared.connection.Asked.{Asked}
-use Rattle.capi.specs.Interface.{over}
+use Rattle.capi.specs.Interface.{over, toldIn}
+use Rattle.capi.specs.InterfaceLaws.{roomy}
 use Rattle.capi.specs.WriteInterface.{givenRecord, refusedWith, byKind, request, writtenNumber, writtenNumbers, Writes}
 
 module _ (b : List ℕ) (room : ℕ) where
@@ -81,9 +82,9 @@ module _ (answerFor : Record → ℕ → Written) (text : Record → List ℕ) (
 
   pub passes-on : {x : Asked} (w : Written) {answer : ℕ} {o n : List ℕ} → a ≡ x → a .number ≡ 0
       → w ≡ answerFor (a .connection) (length output) → o ≡ outputAfter w (text (a .connection)) output
-      → (answer ≡ writtenNumber w) × (n ≡ over (writtenNumbers w) numbers)
+      → (answer ≡ writtenNumber w) × (n ≡ toldIn 4 (writtenNumbers w) numbers) → 4 ≤ length numbers
       → Writes answerFor text x output numbers answer o n
-  passes-on w {answer} {o} {n} e h ew eo et =
+  passes-on w {answer} {o} {n} e h ew eo et room =
       let yes = sym (eq-eqb (a .number) 0 h) in
       subst (λ (y : Asked). Writes answerFor text y output numbers answer o n) e
       (record {
@@ -94,6 +95,7 @@ module _ (answerFor : Record → ℕ → Written) (text : Record → List ℕ) (
             ∙ ap (λ (v : Written). outputAfter v (text (a .connection)) output) ew
             ∙ ap (λ (b : Bool). pick b (outputAfter (answerFor (a .connection) (length output)) (text (a .connection)) output) output) yes;
         tells = et .1
+            ∙ sym (roomy 4 numbers _ _ room)
             ∙ ap (λ (v : Written). over (writtenNumbers v) numbers) ew
             ∙ ap (λ (b : Bool). pick b (over (writtenNumbers (answerFor (a .connection) (length output))) numbers) numbers) yes;
       })

@@ -1,8 +1,15 @@
 // A connection as 221 bytes: the stored form's kind code, two addresses of 108 bytes, and two ports, high byte first.
+use answer::Seen;
 use answer::blank;
+use reader::in_bytes;
 use record::Family;
 use record::Kind;
 use record::Record;
+use record::address_length;
+use record::behind;
+use record::destination_port_of;
+use record::front;
+use record::source_port_of;
 use store::code_of;
 use store::kind_of;
 ghost use mathlib.Core.Path.{_≡_};
@@ -10,7 +17,8 @@ ghost use Prim.Native.Nat.{_+_, _*_, _≤_};
 ghost use lib.ListN.{length, take, drop};
 ghost use Rattle.record.specs.Records.{held, recordOf};
 ghost use Rattle.record.specs.Placed.{placed};
-ghost use Rattle.capi.specs.Interface.{connectionBytes, over};
+ghost use Rattle.answer.specs.Sight.{recordBy};
+ghost use Rattle.capi.specs.Interface.{connectionBytes, over, toldIn};
 ghost use Rattle.capi.specs.WriteInterface.{givenRecord, request as requestOf};
 
 // Puts an address, and zeros behind it up to 108 bytes, at this place of the output.
@@ -24,7 +32,7 @@ fn put_address(address: &[u8], out: &mut [u8], at: usize)
 }
 
 // Puts a connection's parts at the front of the output.
-pub(crate) fn put_connection(
+fn put_connection(
     kind: Kind,
     source: &[u8],
     destination: &[u8],
@@ -48,11 +56,48 @@ pub(crate) fn put_connection(
     record::put(&to, out, 219);
 }
 
-// Puts a record's connection at the front of the output.
-pub(crate) fn put_record(caller: Record, out: &mut [u8])
-    requires { ⌜ 221 ≤ length (now out) ⌝ }
-    ensures { λ _. ⌜ now (out .exit) ≡ over (connectionBytes caller) (now (out .entry)) ⌝ }
+// Puts the connection that is seen in the bytes, where the output has room for it; else it stays as it is. The addresses are lent by the
+// bytes or by the caller, and copied once.
+pub(crate) fn put_seen(bytes: &[u8], seen: Seen, out: &mut [u8])
+    ensures { λ _. ⌜ now (out .exit) ≡ toldIn 221 (connectionBytes (recordBy (seen .verdict) (now (bytes .entry)) (seen .caller))) (now (out .entry)) ⌝ }
 {
+    if out.len() < 221 {
+        return;
+    }
+    let verdict = seen.verdict;
+    let caller = seen.caller;
+    let kind = caller.kind;
+    let source = caller.source;
+    let destination = caller.destination;
+    let n = address_length(kind);
+    if in_bytes(verdict) {
+        let block = behind(bytes, 16);
+        let p = source_port_of(kind, block);
+        let q = destination_port_of(kind, block);
+        let from = front(block, n);
+        let to = front(behind(block, n), n);
+        put_connection(kind, from, to, p, q, out);
+    } else {
+        let from = front(&source, n);
+        let to = front(&destination, n);
+        put_connection(
+            kind,
+            from,
+            to,
+            caller.source_port,
+            caller.destination_port,
+            out,
+        );
+    }
+}
+
+// Puts a record's connection, where the output has room for it; else it stays as it is.
+pub(crate) fn put_record(caller: Record, out: &mut [u8])
+    ensures { λ _. ⌜ now (out .exit) ≡ toldIn 221 (connectionBytes caller) (now (out .entry)) ⌝ }
+{
+    if out.len() < 221 {
+        return;
+    }
     let kind = caller.kind;
     let source = caller.source;
     let destination = caller.destination;

@@ -1,9 +1,7 @@
 // The numbers that the C functions tell.
 ghost use mathlib.Core.Path.{_≡_};
 ghost use mathlib.Core.List.{[], _∷_};
-ghost use Prim.Native.Nat.{_≤_};
-ghost use lib.ListN.{length};
-ghost use Rattle.capi.specs.Interface.{over};
+ghost use Rattle.capi.specs.Interface.{toldIn};
 
 // What is told by numbers: the answer, and four numbers, of which the last two are a start and a length in the lent bytes.
 pub struct Told {
@@ -14,11 +12,13 @@ pub struct Told {
     pub length: u64,
 }
 
-// Puts four numbers at the front of the output.
+// Puts four numbers at the front of the output, where it has room for them; else it stays as it is.
 pub(crate) fn put_numbers(out: &mut [u64], first: u64, second: u64, start: u64, size: u64)
-    requires { ⌜ 4 ≤ length (now out) ⌝ }
-    ensures { λ _. ⌜ now (out .exit) ≡ over (first ∷ second ∷ start ∷ size ∷ []) (now (out .entry)) ⌝ }
+    ensures { λ _. ⌜ now (out .exit) ≡ toldIn 4 (first ∷ second ∷ start ∷ size ∷ []) (now (out .entry)) ⌝ }
 {
+    if out.len() < 4 {
+        return;
+    }
     out[0] = first;
     out[1] = second;
     out[2] = start;

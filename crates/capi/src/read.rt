@@ -1,22 +1,12 @@
 // What the bytes so far are, for C callers.
-use crate::connection::put_connection;
+use crate::connection::put_seen;
 use crate::numbers::Told;
 use crate::numbers::put_numbers;
-use answer::Seen;
 use answer::Verdict;
-use reader::in_bytes;
 use record::Kind;
-use record::address_length;
-use record::behind;
-use record::destination_port_of;
-use record::front;
-use record::source_port_of;
 ghost use mathlib.Core.Path.{_≡_};
-ghost use Prim.Native.Nat.{_≤_};
-ghost use lib.ListN.{length};
 ghost use Rattle.header.specs.Exactness.{verdict as verdictOn};
-ghost use Rattle.answer.specs.Sight.{recordBy};
-ghost use Rattle.capi.specs.Interface.{connectionBytes, over, readAnswer, readNumbers, readConnection};
+ghost use Rattle.capi.specs.Interface.{readAnswer, readNumbers, readConnection};
 ghost use Rattle.capi.specs.InterfaceLaws.{Tells};
 
 // What a verdict on size bytes and the kind tell.
@@ -47,38 +37,6 @@ fn tell(verdict: Verdict, kind: Kind, size: usize) -> Told
             start: 0,
             length: 0,
         },
-    }
-}
-
-// Puts the connection that is seen in the bytes: its addresses are lent by the bytes or by the caller, and copied once.
-fn put_seen(bytes: &[u8], seen: Seen, out: &mut [u8])
-    requires { ⌜ 221 ≤ length (now out) ⌝ }
-    ensures { λ _. ⌜ now (out .exit) ≡ over (connectionBytes (recordBy (seen .verdict) (now (bytes .entry)) (seen .caller))) (now (out .entry)) ⌝ }
-{
-    let verdict = seen.verdict;
-    let caller = seen.caller;
-    let kind = caller.kind;
-    let source = caller.source;
-    let destination = caller.destination;
-    let n = address_length(kind);
-    if in_bytes(verdict) {
-        let block = behind(bytes, 16);
-        let p = source_port_of(kind, block);
-        let q = destination_port_of(kind, block);
-        let from = front(block, n);
-        let to = front(behind(block, n), n);
-        put_connection(kind, from, to, p, q, out);
-    } else {
-        let from = front(&source, n);
-        let to = front(&destination, n);
-        put_connection(
-            kind,
-            from,
-            to,
-            caller.source_port,
-            caller.destination_port,
-            out,
-        );
     }
 }
 

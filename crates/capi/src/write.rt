@@ -4,13 +4,12 @@ use crate::numbers::put_numbers;
 use answer::Fault;
 use answer::Written;
 ghost use mathlib.Core.Path.{_≡_};
-ghost use Prim.Native.Nat.{_≤_};
 ghost use lib.ListN.{length};
 ghost use Rattle.record.specs.declared.Record.{Record};
 ghost use Rattle.answer.specs.Answers.{faultNumber};
 ghost use Rattle.line_writer.specs.Written.{lineAnswer, writtenLine};
 ghost use Rattle.block_writer.specs.Written.{blockAnswer, writtenBlock};
-ghost use Rattle.capi.specs.Interface.{over};
+ghost use Rattle.capi.specs.Interface.{toldIn};
 ghost use Rattle.capi.specs.WriteInterface.{request as requestOf, writtenNumber, writtenNumbers, Writes};
 
 // Document 01's number of a fault.
@@ -26,10 +25,9 @@ fn fault_number(fault: Fault) -> u32
     }
 }
 
-// Tells what a writer has written.
+// Tells what a writer has written, the length where the numbers have room.
 pub(crate) fn tell_written(written: Written, numbers: &mut [u64]) -> u32
-    requires { ⌜ 4 ≤ length (now numbers) ⌝ }
-    ensures { λ r. ⌜ (r ≡ writtenNumber written) × (now (numbers .exit) ≡ over (writtenNumbers written) (now (numbers .entry))) ⌝ }
+    ensures { λ r. ⌜ (r ≡ writtenNumber written) × (now (numbers .exit) ≡ toldIn 4 (writtenNumbers written) (now (numbers .entry))) ⌝ }
 {
     match written {
         Written::Bytes(n) => {

@@ -4,7 +4,7 @@ use mathlib.Core.Bool.{Bool}
 use mathlib.Core.List.{List, [], _∷_}
 use Prim.Native.Nat.{ℕ, _+_, _-_, _/_, _%_}
 use native.Mathlib.Omega.{arith}
-use lib.ListN.{length, getD, set, take, drop}
+use lib.ListN.{length, getD, take, drop}
 use Rattle.exact.specs.Claim.{Verdict, accepted}
 use Rattle.exact.specs.Field.{Exact, after}
 use Rattle.exact.specs.declared.Scan.{Scan}
@@ -22,27 +22,24 @@ octets-four s octets n e =
     let x : Exact (address4 .field) (accepted octets n) s = subst (λ (v : Verdict (List ℕ)). Exact (address4 .field) v s) (sym e) (address4 .exact s) in
     ap length (x .whole .whole .value)
 
--- its octets, stored at the front of sixteen bytes
-abbrev pub stored : List ℕ → List ℕ → List ℕ
-stored b o = set (set (set (set b 0 (getD o 0 0)) 1 (getD o 1 0)) 2 (getD o 2 0)) 3 (getD o 3 0)
+-- its octets, at the front of sixteen bytes
+abbrev pub padded : List ℕ → List ℕ
+padded o =
+    getD o 0 0 ∷ getD o 1 0 ∷ getD o 2 0 ∷ getD o 3 0 ∷ 0 ∷ 0 ∷ 0 ∷ 0 ∷ 0 ∷ 0 ∷ 0 ∷ 0 ∷ 0 ∷ 0 ∷ 0 ∷ 0 ∷ []
 
-four : (b o : List ℕ) → length b ≡ 16 → length o ≡ 4 → take 4 (stored b o) ≡ o
-four b [] k h = absurd (omega arith)
-four b (x ∷ []) k h = absurd (omega arith)
-four b (x ∷ y ∷ []) k h = absurd (omega arith)
-four b (x ∷ y ∷ z ∷ []) k h = absurd (omega arith)
-four [] (x ∷ y ∷ z ∷ w ∷ []) k h = absurd (omega arith)
-four (p ∷ []) (x ∷ y ∷ z ∷ w ∷ []) k h = absurd (omega arith)
-four (p ∷ q ∷ []) (x ∷ y ∷ z ∷ w ∷ []) k h = absurd (omega arith)
-four (p ∷ q ∷ r ∷ []) (x ∷ y ∷ z ∷ w ∷ []) k h = absurd (omega arith)
-four (p ∷ q ∷ r ∷ s ∷ b) (x ∷ y ∷ z ∷ w ∷ []) k h = refl
-four b (x ∷ y ∷ z ∷ w ∷ v ∷ o) k h = absurd (omega arith)
+four : (o : List ℕ) → length o ≡ 4 → take 4 (padded o) ≡ o
+four [] h = absurd (omega arith)
+four (a ∷ []) h = absurd (omega arith)
+four (a ∷ b ∷ []) h = absurd (omega arith)
+four (a ∷ b ∷ c ∷ []) h = absurd (omega arith)
+four (a ∷ b ∷ c ∷ d ∷ []) h = refl
+four (a ∷ b ∷ c ∷ d ∷ e ∷ o) h = absurd (omega arith)
 
-pub told4 : (scan : Scan) (b octets s : List ℕ) → length b ≡ 16 → heard 3 scan octets ≡ address4 .verdict s
-    → toldBytes 4 scan (stored b octets) ≡ address4 .verdict s
-told4 (Accepted v n) b octets s k e = ap (λ (o : List ℕ). accepted o n) (four b octets k (octets-four s octets n e)) ∙ e
-told4 More b octets s k e = e
-told4 (Refused p) b octets s k e = e
+pub told4 : (scan : Scan) (octets s : List ℕ) → heard 3 scan octets ≡ address4 .verdict s
+    → toldBytes 4 scan (padded octets) ≡ address4 .verdict s
+told4 (Accepted v n) octets s e = ap (λ (o : List ℕ). accepted o n) (four octets (octets-four s octets n e)) ∙ e
+told4 More octets s e = e
+told4 (Refused p) octets s e = e
 
 -- an accepted IPv6 address has eight groups
 groups-eight : (s gs : List ℕ) (n : ℕ) → accepted gs n ≡ groups .verdict s → length gs ≡ 8

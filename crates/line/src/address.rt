@@ -2,7 +2,6 @@
 use exact::Scan;
 ghost use mathlib.Core.Path.{_≡_};
 ghost use Prim.Native.Nat.{_/_, _%_};
-ghost use lib.ListN.{length};
 ghost use Rattle.header.specs.Line.{groupBytes};
 ghost use Rattle.header.specs.Exactness.{address4 as fieldOf4, address6 as fieldOf6};
 ghost use Rattle.line.specs.Families.{toldBytes, width, field};
@@ -45,18 +44,31 @@ fn group_bytes(groups: [u16; 8]) -> [u8; 16]
     ]
 }
 
-// The octets of an IPv4 address, in the first 4 of the bytes. Behind a reference the proof knows an array's length only where it is asked.
+// The octets of an IPv4 address, in the first 4 of the bytes.
 fn address4(s: &[u8], bytes: &mut [u8; 16]) -> Scan
-    requires { ⌜ length (now bytes) ≡ 16 ⌝ }
     ensures { λ r. ⌜ toldBytes 4 r (now (bytes .exit)) ≡ fieldOf4 .verdict (now (s .entry)) ⌝ }
 {
     let found = text::ip4(s, b' ');
     let scan = found.scan;
     let octets = found.octets;
-    bytes[0] = octets[0];
-    bytes[1] = octets[1];
-    bytes[2] = octets[2];
-    bytes[3] = octets[3];
+    *bytes = [
+        octets[0],
+        octets[1],
+        octets[2],
+        octets[3],
+        0,
+        0,
+        0,
+        0,
+        0,
+        0,
+        0,
+        0,
+        0,
+        0,
+        0,
+        0,
+    ];
     scan
 }
 
@@ -72,7 +84,6 @@ fn address6(s: &[u8], bytes: &mut [u8; 16]) -> Scan
 
 // The address of a TCP6 line if six, else of a TCP4 line, at the front of the bytes where it is accepted.
 pub(crate) fn address(s: &[u8], six: bool, bytes: &mut [u8; 16]) -> Scan
-    requires { ⌜ length (now bytes) ≡ 16 ⌝ }
     ensures { λ r. ⌜ toldBytes (width six) r (now (bytes .exit)) ≡ field six .verdict (now (s .entry)) ⌝ }
 {
     if six {

@@ -1,11 +1,15 @@
--- Four stores in a row.
+-- Four stores in a row, where there is room.
+use mathlib.Core.Path.{_∙_}
 use native.Mathlib.Omega.{arith}
 use denote.Ref.{now}
 use lib.ListN.{length-set}
-use Rattle.capi.specs.InterfaceLaws.{four-stores}
+use Rattle.capi.specs.InterfaceLaws.{four-stores, roomy, cramped}
 use borrow.Author.Needs.{needs}
 use Rattle.capi.proofs.numbers.put_numbers.Statement.{statement}
 use Rattle.capi.proofs.numbers.put_numbers.Tie as tie
+
+returns : tie.Need-returns
+returns c = let x = c .before .args in cramped 4 (now (x .out)) _ _ (omega arith)
 
 slice-write-out : tie.Need-slice-write-out
 slice-write-out c = search needs
@@ -22,16 +26,19 @@ slice-write-out-4 c = search needs
 same-length : tie.Need-same-length
 same-length c = search needs
 
-returns : tie.Need-returns
-returns c = let x = c .args in four-stores (now (x .out)) (x .first) (x .second) (x .start) (x .size) (c .pre)
+returns-2 : tie.Need-returns-2
+returns-2 c =
+    let x = c .before .args in
+    four-stores (now (x .out)) (x .first) (x .second) (x .start) (x .size) (omega arith) ∙ roomy 4 (now (x .out)) _ _ (omega arith)
 
 pub put-numbers-spec : {M : Type 1} → statement M
 put-numbers-spec =
     tie.close
     (tie.spec
+    returns
     slice-write-out
     slice-write-out-2
     slice-write-out-3
     slice-write-out-4
     same-length
-    returns)
+    returns-2)

@@ -23,11 +23,7 @@ write-block-requires : tie.Need-write-block-requires
 write-block-requires c κs = search needs
 
 tell-written-requires : tie.Need-tell-written-requires
-tell-written-requires c κs =
-    let written = c .before .before .before in
-    let asked = written .before .before .before .before in
-    let x = asked .before .before .before .before .before .args in
-    asks-roomy (now (x .connection)) (length (now (x .numbers))) (sym (ap (λ (a : Asked). a .number) (asked .request .ensures)) ∙ written .before .before .if1 .left)
+tell-written-requires c κs = search needs
 
 same-length : tie.Need-same-length
 same-length c = search needs
@@ -43,6 +39,8 @@ returns-2 c =
     let x = asked .before .before .before .before .before .args in
     passes-on (λ (r : Record). blockAnswer r (now (x .area))) (λ (r : Record). writtenBlock r (now (x .area))) (now (x .out)) (now (x .numbers)) (asked .request .result) (written .write-block .result) (asked .request .ensures)
     (written .before .before .if1 .left) (written .write-block .ensures .0) (written .write-block .ensures .1) (told .tell-written .ensures)
+    (asks-roomy (now (x .connection)) (length (now (x .numbers)))
+    (sym (ap (λ (a : Asked). a .number) (asked .request .ensures)) ∙ written .before .before .if1 .left))
 
 pub dawnhawse-write-v2-spec : {M : Type 1} → statement M
 dawnhawse-write-v2-spec =

@@ -2,7 +2,7 @@
 use mathlib.Core.Path.{sym, ap, _∙_}
 use denote.Ref.{now}
 use Rattle.answer.specs.declared.Written.{Written}
-use Rattle.capi.specs.Interface.{over}
+use Rattle.capi.specs.Interface.{toldIn}
 use Rattle.capi.specs.WriteInterface.{writtenNumber, writtenNumbers}
 use borrow.Author.Needs.{needs}
 use Rattle.capi.proofs.write.tell_written.Statement.{statement}
@@ -32,7 +32,7 @@ returns c =
     let case = put .before .before in
     let is = sym (case .before .written .given .1) in
     let x = case .before .before .before .before .args in
-    (ap writtenNumber is, put .put-numbers .ensures ∙ ap (λ (w : Written). over (writtenNumbers w) (now (x .numbers))) is)
+    (ap writtenNumber is, put .put-numbers .ensures ∙ ap (λ (w : Written). toldIn 4 (writtenNumbers w) (now (x .numbers))) is)
 
 same-length-2 : tie.Need-same-length-2
 same-length-2 c = search needs
@@ -44,7 +44,7 @@ returns-2 c =
     let is = sym (case .before .written2 .given .1) in
     let x = case .before .before .before .before .args in (
       c .fault-number .ensures ∙ ap writtenNumber is,
-      put .put-numbers2 .ensures ∙ ap (λ (w : Written). over (writtenNumbers w) (now (x .numbers))) is,
+      put .put-numbers2 .ensures ∙ ap (λ (w : Written). toldIn 4 (writtenNumbers w) (now (x .numbers))) is,
     )
 
 pub tell-written-spec : {M : Type 1} → statement M

@@ -8,10 +8,13 @@ use lib.ListN.{take}
 use Rattle.record.specs.declared.Record.{Record}
 use Rattle.record.specs.AddressBlock.{blockRecord}
 use Rattle.capi.specs.Interface.{connectionBytes, over}
-use Rattle.capi.specs.InterfaceLaws.{part-short, block-parts, caller-parts, seen-as}
+use Rattle.capi.specs.InterfaceLaws.{part-short, block-parts, caller-parts, seen-as, roomy, cramped}
 use borrow.Author.Needs.{needs}
-use Rattle.capi.proofs.read.put_seen.Statement.{statement}
-use Rattle.capi.proofs.read.put_seen.Tie as tie
+use Rattle.capi.proofs.connection.put_seen.Statement.{statement}
+use Rattle.capi.proofs.connection.put_seen.Tie as tie
+
+returns : tie.Need-returns
+returns c = let x = c .before .before .before .args in cramped 221 (now (x .out)) _ _ (omega arith)
 
 address-length-requires : tie.Need-address-length-requires
 address-length-requires c κs = search needs
@@ -42,7 +45,7 @@ put-connection-requires c κs =
     let to = c .before in
     let from = to .before .before in
     let length = from .before .before .before .before .before .before in
-    let start = length .before .before .before .before .before .before in
+    let start = length .before .before .before .before .before .before .before in
     let k = start .args .seen .caller .kind in
     let n = length .address-length .ensures in
     (part-short k _ _ _ n (from .front .ensures), part-short k _ _ _ n (to .front2 .ensures), omega arith)
@@ -64,7 +67,7 @@ put-connection-requires-2 c κs =
     let to = c .before in
     let from = to .before .before in
     let length = from .before .before .before .before in
-    let start = length .before .before .before .before .before .before in
+    let start = length .before .before .before .before .before .before .before in
     let k = start .args .seen .caller .kind in
     let n = length .address-length .ensures in
     (part-short k _ _ _ n (from .front3 .ensures), part-short k _ _ _ n (to .front4 .ensures), omega arith)
@@ -72,8 +75,8 @@ put-connection-requires-2 c κs =
 same-length : tie.Need-same-length
 same-length c = search needs
 
-returns : tie.Need-returns
-returns c =
+returns-2 : tie.Need-returns-2
+returns-2 c =
     let put = c .before .before in
     let to = put .before .before in
     let rest = to .before in
@@ -83,7 +86,7 @@ returns c =
     let block = p .before in
     let told = block .before .before in
     let length = told .before in
-    let start = length .before .before .before .before .before .before in
+    let start = length .before .before .before .before .before .before .before in
     let x = start .args in
     let n = length .address-length .ensures in
     let k = x .seen .caller .kind in
@@ -92,30 +95,33 @@ returns c =
     (block-parts k _ n (from .front .ensures) (to .front2 .ensures ∙ ap (λ (l : List ℕ). take (length .address-length .result) l) (rest .behind2 .ensures))
     (p .source-port-of .ensures) (q .destination-port-of .ensures)
     ∙ ap (blockRecord k) (block .behind .ensures)
-    ∙ seen-as (x .seen .verdict) (now (x .bytes)) (x .seen .caller) (told .in-bytes .ensures) (block .before .if1 .taken))
+    ∙ seen-as (x .seen .verdict) (now (x .bytes)) (x .seen .caller) (told .in-bytes .ensures) (block .before .if2 .taken))
+    ∙ roomy 221 (now (x .out)) _ _ (length .before .before .before .before .if1 .left)
 
 same-length-2 : tie.Need-same-length-2
 same-length-2 c = search needs
 
-returns-2 : tie.Need-returns-2
-returns-2 c =
+returns-3 : tie.Need-returns-3
+returns-3 c =
     let put = c .before .before in
     let to = put .before .before in
     let from = to .before .before in
     let told = from .before .before .before in
     let length = told .before in
-    let start = length .before .before .before .before .before .before in
+    let start = length .before .before .before .before .before .before .before in
     let x = start .args in
     let n = length .address-length .ensures in
     put .put-connection2 .ensures
     ∙ ap (λ (r : Record). over (connectionBytes r) (now (x .out)))
     (caller-parts (x .seen .caller) n (from .front3 .ensures) (to .front4 .ensures)
-    ∙ seen-as (x .seen .verdict) (now (x .bytes)) (x .seen .caller) (told .in-bytes .ensures) (from .before .before .if1 .left))
+    ∙ seen-as (x .seen .verdict) (now (x .bytes)) (x .seen .caller) (told .in-bytes .ensures) (from .before .before .if2 .left))
+    ∙ roomy 221 (now (x .out)) _ _ (length .before .before .before .before .if1 .left)
 
 pub put-seen-spec : {M : Type 1} → statement M
 put-seen-spec =
     tie.close
     (tie.spec
+    returns
     address-length-requires
     in-bytes-requires
     behind-requires
@@ -131,6 +137,6 @@ put-seen-spec =
     front-requires-4
     put-connection-requires-2
     same-length
-    returns
+    returns-2
     same-length-2
-    returns-2)
+    returns-3)
