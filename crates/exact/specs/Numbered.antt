@@ -1,6 +1,6 @@
 -- For proofs. The number of a place, carried through the laws: behind the bytes `before`, a field numbers its places as `number` does.
 use mathlib.Core.Path.{_≡_, refl, sym, ap, _∙_, subst, subst₂}
-use mathlib.Core.Bool.{Bool, true, false}
+use mathlib.Core.Bool.{Bool, true, false, _&&_}
 use mathlib.Core.List.{List, [], _∷_, _++_, append-assoc, append-nil, append-cancel-left}
 use mathlib.Core.Logic.{_⊎_, inl, inr, ⊎-elim}
 use Prim.Native.Nat.{ℕ}
@@ -11,7 +11,7 @@ use borrow.Author.Tests.{eqb-true}
 use Rattle.exact.specs.Claim.{AllBytes}
 use Rattle.exact.specs.Field.{Field, Begins, Opens, seq}
 use Rattle.exact.specs.Machine.{leaf}
-use Rattle.exact.specs.Pick.{pick}
+use Rattle.exact.specs.Pick.{pick, both}
 use Rattle.exact.specs.Parser.{Parser, Starts, just, _then_, either}
 use Rattle.exact.specs.Unique.{fronts, unique}
 use Rattle.exact.specs.Literal.{Literal, text}
@@ -35,20 +35,16 @@ module _ (number : List ℕ → ℕ) where
   -- a literal, by a test of its proper prefixes that is computed
   abbrev pub allPlaces : ℕ → List ℕ → List ℕ → Bool
   allPlaces k before [] = true
-  allPlaces k before (x ∷ w) = pick (eqb (number before) k) (allPlaces k (before ++ x ∷ []) w) false
-
-  pick-both : (b c : Bool) → pick b c false ≡ true → (b ≡ true) × (c ≡ true)
-  pick-both true c e = (refl, e)
-  pick-both false c e = let z : _≡_ {A = ℕ} 0 1 = cc in (absurd (omega arith), absurd (omega arith))
+  allPlaces k before (x ∷ w) = eqb (number before) k && allPlaces k (before ++ x ∷ []) w
 
   all-places : (k : ℕ) (before w : List ℕ) → allPlaces k before w ≡ true → (u : List ℕ) (c : ℕ) (t : List ℕ) → u ++ c ∷ t ≡ w → k ≡ number (before ++ u)
   all-places k before [] e [] c t s = let z : _≡_ {A = ℕ} 0 1 = cc in absurd (omega arith)
   all-places k before [] e (y ∷ u) c t s = let z : _≡_ {A = ℕ} 0 1 = cc in absurd (omega arith)
   all-places k before (x ∷ w) e [] c t s =
-      sym (eqb-true (number before) k (pick-both (eqb (number before) k) _ e .0)) ∙ ap number (sym (append-nil before))
+      sym (eqb-true (number before) k (both (eqb (number before) k) _ e .0)) ∙ ap number (sym (append-nil before))
   all-places k before (x ∷ w) e (y ∷ u) c t s =
       let h : y ≡ x = cc in
-      all-places k (before ++ x ∷ []) w (pick-both (eqb (number before) k) _ e .1) u c t (cc)
+      all-places k (before ++ x ∷ []) w (both (eqb (number before) k) _ e .1) u c t (cc)
       ∙ ap number (append-snoc before x u ∙ ap (λ (z : ℕ). before ++ z ∷ u) (sym h))
 
   pub numbered-text : {A : Type 0} (k : ℕ) (a : A) (x : ℕ) (w : List ℕ) (bytes : AllBytes (x ∷ w)) (before : List ℕ)

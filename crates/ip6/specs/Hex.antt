@@ -6,7 +6,7 @@ use Prim.Native.Nat.{ℕ, zero, suc, _+_, _-_, _*_, _/_, _%_, _^_, _≤_, _<_}
 use native.Mathlib.Omega.{arith}
 use lib.Dec.{leb, eqb}
 use borrow.Author.Tests.{leb-true, le-leb, lt-leb, eqb-true, eqb-false, eq-eqb, ne-eqb}
-use Rattle.exact.specs.Pick.{pick, pick-by}
+use Rattle.exact.specs.Pick.{pick, pick-by, both}
 use Rattle.ip6.specs.Address.{among, hexOf}
 
 among-high : (a z c : ℕ) → pick (leb a c) (leb c z) false ≡ true → c ≤ z
@@ -70,11 +70,6 @@ value c = c % 16 + c / 64 * 9
 abbrev below : ℕ → (ℕ → Bool) → Bool
 below zero test = true
 below (suc n) test = test n && below n test
-
-both : (a b : Bool) → a && b ≡ true → (a ≡ true) × (b ≡ true)
-both true true e = (refl, refl)
-both true false e = let z : _≡_ {A = ℕ} 0 1 = cc in absurd (omega arith)
-both false b e = let z : _≡_ {A = ℕ} 0 1 = cc in absurd (omega arith)
 
 below-each : (n : ℕ) (test : ℕ → Bool) → below n test ≡ true → (i : ℕ) → i < n → test i ≡ true
 below-each zero test all i h = absurd (omega arith)

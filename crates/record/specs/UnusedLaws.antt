@@ -1,24 +1,19 @@
 -- The test of what a kind does not use says what `Clean` says, of every record in memory.
 use mathlib.Core.Path.{_≡_, refl, ap, _∙_}
-use mathlib.Core.Bool.{Bool, true, false, _&&_}
+use mathlib.Core.Bool.{true}
 use mathlib.Core.List.{List, [], _∷_}
 use mathlib.Core.Logic.{_↔_}
 use Prim.Native.Nat.{ℕ, suc, zero, _-_, _<_}
-use native.Mathlib.Omega.{arith}
 use borrow.Author.Tests.{eqb-true, eq-eqb}
 use lib.Dec.{eqb}
 use lib.ListN.{length, drop, replicate, length-drop}
+use Rattle.exact.specs.Pick.{both}
 use Rattle.record.specs.declared.Kind.{Kind}
 use Rattle.record.specs.declared.Kind.the-variants.{Local, Unspecified, Ip4, Ip6, Unix}
 use Rattle.record.specs.declared.Record.{Record}
 use Rattle.record.specs.Kinds.{addressLength}
 use Rattle.record.specs.Records.{PortFits, Clean, Sized}
 use Rattle.record.specs.Unused.{zeros, cleanAddress, cleanPort, cleanTest}
-
--- both tests hold
-pub both : (a b : Bool) → a && b ≡ true → (a ≡ true) × (b ≡ true)
-both true b e = (refl, e)
-both false b e = let z : _≡_ {A = ℕ} 0 1 = cc in absurd (omega arith)
 
 pub all-zero : (s : List ℕ) → zeros s ≡ true → s ≡ replicate (length s) 0
 all-zero [] e = refl

@@ -9,7 +9,7 @@ use borrow.Author.Tests.{eqb-true, ltb-false, le-leb, leb-true, leb-false}
 use lib.Dec.{eqb, ltb, leb}
 use lib.ListN.{length, take, drop, getD, length-drop}
 use Rattle.exact.specs.Claim.{AllBytes}
-use Rattle.exact.specs.Pick.{pick-by}
+use Rattle.exact.specs.Pick.{pick-by, both}
 use Rattle.record.specs.declared.Transport.the-variants.{Stream}
 use Rattle.record.specs.declared.Kind.{Kind}
 use Rattle.record.specs.declared.Kind.the-variants.{Local, Unspecified, Ip4, Ip6, Unix}
@@ -17,7 +17,7 @@ use Rattle.record.specs.declared.Record.{Record}
 use Rattle.record.specs.Kinds.{blockLength}
 use Rattle.record.specs.Records.{Clean, Sized}
 use Rattle.record.specs.Unused.{cleanTest}
-use Rattle.record.specs.UnusedLaws.{both, clean-test}
+use Rattle.record.specs.UnusedLaws.{clean-test}
 use Rattle.record.specs.AddressBlock.{blockRecord}
 use Rattle.record.specs.AddressBlockLaws.{block-size, bytes-drop, record-again, block-again, block-clean, block-sized}
 use Rattle.answer.specs.declared.Fault.the-variants.{Unused, Room}
