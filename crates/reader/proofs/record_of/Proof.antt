@@ -32,7 +32,7 @@ returns c =
     let told = c .before .before .before in
     let x = told .before .before .before .before .before .args in
     c .addresses-of .ensures
-    ∙ ap (blockRecord (x .seen .caller .kind)) (c .before .behind .ensures)
+    ∙ ap (blockRecord (x .seen .caller .kind)) (c .before .behind .ensures .2)
     ∙ ap (λ (b : Bool). pick b (blockRecord (x .seen .caller .kind) (drop 16 (x .s .now))) (callerRecord (x .seen .caller)))
     (sym (c .before .before .if1 .taken) ∙ told .in-bytes .ensures)
 

@@ -48,7 +48,7 @@ put-connection-requires c κs =
     let start = length .before .before .before .before .before .before .before in
     let k = start .args .seen .caller .kind in
     let n = length .address-length .ensures in
-    (part-short k _ _ _ n (from .front .ensures), part-short k _ _ _ n (to .front2 .ensures), omega arith)
+    (part-short k _ _ _ n (from .front .ensures .2), part-short k _ _ _ n (to .front2 .ensures .2), omega arith)
 
 slice-aggregate-front : tie.Need-slice-aggregate-front
 slice-aggregate-front c = search needs
@@ -92,9 +92,9 @@ returns-2 c =
     let k = x .seen .caller .kind in
     put .put-connection .ensures
     ∙ ap (λ (r : Record). over (connectionBytes r) (now (x .out)))
-    (block-parts k _ n (from .front .ensures) (to .front2 .ensures ∙ ap (λ (l : List ℕ). take (length .address-length .result) l) (rest .behind2 .ensures))
+    (block-parts k _ n (from .front .ensures .2) (to .front2 .ensures .2 ∙ ap (λ (l : List ℕ). take (length .address-length .result) l) (rest .behind2 .ensures .2))
     (p .source-port-of .ensures) (q .destination-port-of .ensures)
-    ∙ ap (blockRecord k) (block .behind .ensures)
+    ∙ ap (blockRecord k) (block .behind .ensures .2)
     ∙ seen-as (x .seen .verdict) (now (x .bytes)) (x .seen .caller) (told .in-bytes .ensures) (block .before .if2 .taken))
     ∙ roomy 221 (now (x .out)) _ _ (length .before .before .before .before .if1 .left)
 

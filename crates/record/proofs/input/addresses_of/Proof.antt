@@ -40,7 +40,7 @@ returns c =
     let length = rest .before in
     let x = length .before .before .args in
     made (x .kind) (now (x .block)) _ _ _ _
-    (rest .behind .ensures ∙ ap (λ (n : ℕ). drop n (now (x .block))) (length .address-length .ensures))
+    (rest .behind .ensures .2 ∙ ap (λ (n : ℕ). drop n (now (x .block))) (length .address-length .ensures))
     (from .source-port-of .ensures) (to .destination-port-of .ensures) (c .record-from .ensures)
 
 pub addresses-of-spec : {M : Type 1} → statement M

@@ -1,5 +1,5 @@
 -- The end is the least of n and the number of bytes.
-use mathlib.Core.Path.{_≡_, ap, _∙_}
+use mathlib.Core.Path.{_≡_, refl, ap, _∙_}
 use Prim.Native.Nat.{ℕ, _-_, min}
 use native.Mathlib.Omega.{arith}
 use lib.ListN.{length, take}
@@ -8,24 +8,13 @@ use borrow.Author.Needs.{needs}
 use Rattle.record.proofs.part.front.Statement.{statement}
 use Rattle.record.proofs.part.front.Tie as tie
 
-least-requires : tie.Need-least-requires
-least-requires c κs = search needs
-
-sub-result : tie.Need-sub-result
-sub-result c = search needs
-
-part-result-start : tie.Need-part-result-start
-part-result-start c = search needs
-
-part-result-end : tie.Need-part-result-end
-part-result-end c = search needs
-
 returns : tie.Need-returns
 returns c =
     let x = c .before .before .before .args in
     let end : c .before .least .result - 0 ≡ min (x .n) (length (x .bytes .now)) = let e = c .before .least .ensures in omega arith in
-    ap (λ (m : ℕ). take m (x .bytes .now)) end ∙ take-least (x .n) (x .bytes .now)
+    (refl, omega arith, ap (λ (m : ℕ). take m (x .bytes .now)) end ∙ take-least (x .n) (x .bytes .now))
 
 pub front-spec : {M : Type 1} → statement M
 front-spec =
-    tie.close (tie.spec least-requires sub-result part-result-start part-result-end returns)
+    tie.close
+    (tie.spec (λ c κs. search needs) (λ c. search needs) (λ c. search needs) (λ c. search needs) returns)
