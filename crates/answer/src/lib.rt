@@ -6,8 +6,8 @@ ghost use mathlib.Core.List.{List};
 ghost use Prim.Native.Nat.{ℕ};
 ghost use Rattle.exact.specs.Claim.{more as moreOf, refused as refusedOf};
 ghost use Rattle.record.specs.Records.{bare};
-ghost use Rattle.answer.specs.Answers.{Answers, numberOf};
-ghost use Rattle.answer.specs.Sight.{kindOnly, readingOf};
+ghost use Rattle.answer.specs.Answers.{numberOf};
+ghost use Rattle.answer.specs.Sight.{kindOnly, Sees};
 
 // The field that holds the first dead byte: document 01's numbers 1 to 9.
 pub enum Refusal {
@@ -66,7 +66,7 @@ pub fn blank(kind: Kind) -> Record
     }
 }
 
-// Who is calling, as a text line says it: the addresses stand at the front of their arrays, and what is behind them is not looked at.
+// Who is calling, as a text line says it: the addresses stand at the front of their arrays, with zeros behind them.
 pub struct Caller {
     pub kind: Kind,
     pub source: [u8; 16],
@@ -96,7 +96,7 @@ pub fn of_kind(kind: Kind) -> Caller
 }
 
 pub fn more() -> Seen
-    ensures { λ r. ⌜ ((s : List ℕ) → Answers s moreOf (readingOf s r)) ⌝ }
+    ensures { λ r. ⌜ ((s : List ℕ) → Sees s moreOf r) ⌝ }
 {
     Seen {
         verdict: Verdict::More,
@@ -105,7 +105,7 @@ pub fn more() -> Seen
 }
 
 pub fn refused(refusal: Refusal, place: usize) -> Seen
-    ensures { λ r. ⌜ ((s : List ℕ) → Answers s (refusedOf (numberOf refusal) place) (readingOf s r)) ⌝ }
+    ensures { λ r. ⌜ ((s : List ℕ) → Sees s (refusedOf (numberOf refusal) place) r) ⌝ }
 {
     Seen {
         verdict: Verdict::Refused { refusal, place },

@@ -9,17 +9,18 @@ use Rattle.exact.specs.Claim.{accepted}
 use Rattle.exact.specs.Field.{shift}
 use Rattle.record.specs.declared.Record.{Record}
 use Rattle.header.specs.BlockFields.{blocked}
-use Rattle.answer.specs.declared.Reading.{Reading}
-use Rattle.answer.specs.Answers.{Answers, areaOf}
-use Rattle.answer.specs.StageLaws.{answers-as}
+use Rattle.answer.specs.declared.Seen.{Seen}
+use Rattle.answer.specs.Answers.{areaOf}
+use Rattle.answer.specs.Sight.{Sees}
+use Rattle.answer.specs.StageLaws.{sees-as}
 
 -- a header of n bytes that says the record y and the TLV area a
-pub as-block : (s : List ℕ) (n : ℕ) (x y : Record) (a : List ℕ) {r : Reading} → x ≡ y → areaOf 2 (y .kind) (take n s) ≡ a
-    → Answers s (accepted (blocked x (areaOf 2 (x .kind) (take n s))) n) r
-    → Answers s (shift n (accepted (blocked y a) 0)) r
+pub as-block : (s : List ℕ) (n : ℕ) (x y : Record) (a : List ℕ) {seen : Seen} → x ≡ y → areaOf 2 (y .kind) (take n s) ≡ a
+    → Sees s (accepted (blocked x (areaOf 2 (x .kind) (take n s))) n) seen
+    → Sees s (shift n (accepted (blocked y a) 0)) seen
 as-block s n x y a e here answer =
     let zero-more : n ≡ n + 0 = omega arith in
-    answers-as answer
+    sees-as answer
     (ap (λ (z : Record). accepted (blocked z (areaOf 2 (z .kind) (take n s))) n) e
     ∙ ap (λ (t : List ℕ). accepted (blocked y t) n) here
     ∙ ap (λ (m : ℕ). accepted (blocked y a) m) zero-more)

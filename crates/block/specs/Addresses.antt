@@ -17,9 +17,10 @@ use Rattle.record.specs.Records.{recordOf}
 use Rattle.record.specs.AddressBlock.{blockRecord}
 use Rattle.header.specs.Header.{Header}
 use Rattle.header.specs.BlockFields.{blocked, address, port, area, addresses, fits}
-use Rattle.answer.specs.declared.Reading.{Reading}
-use Rattle.answer.specs.Answers.{Answers, areaOf}
-use Rattle.answer.specs.StageLaws.{answers-as, as-more, as-refused, as-accepted}
+use Rattle.answer.specs.declared.Seen.{Seen}
+use Rattle.answer.specs.Answers.{areaOf}
+use Rattle.answer.specs.Sight.{Sees}
+use Rattle.answer.specs.StageLaws.{sees-as, as-more, as-refused, as-accepted}
 use Rattle.block.specs.Parts.{portAt, recordAt, record-at}
 use Rattle.block.specs.Takes.{Short, Takes, then-short, then-at}
 use Rattle.block.specs.Leaves.{takes-count, takes-spelled, takes-port, area-judged}
@@ -113,11 +114,11 @@ module _ {k : Kind} {n a : ℕ} {s : List ℕ} (here : Reached k n a s) where
       ∙ ap (λ (m : ℕ). spell (judge 9 (n - m) behind) behind) (here .block)
       ∙ sym (area-judged (blockLength k) n behind (here .fit))
 
-  pub tlvs-more : {r : Reading} → more ≡ judge 9 (n - a) behind → Answers s more r → Answers s said r
-  tlvs-more e h = answers-as (as-more tlvs says s (16 + a) (spelt more e) h) at-tlvs
+  pub tlvs-more : {x : Seen} → more ≡ judge 9 (n - a) behind → Sees s more x → Sees s said x
+  tlvs-more e h = sees-as (as-more tlvs says s (16 + a) (spelt more e) h) at-tlvs
 
-  pub tlvs-refused : {r : Reading} (p : ℕ) → refused 9 p ≡ judge 9 (n - a) behind → Answers s (refused 9 (16 + a + p)) r → Answers s said r
-  tlvs-refused p e h = answers-as (as-refused tlvs says s (16 + a) 9 p (spelt (refused 9 p) e) h) at-tlvs
+  pub tlvs-refused : {x : Seen} (p : ℕ) → refused 9 p ≡ judge 9 (n - a) behind → Sees s (refused 9 (16 + a + p)) x → Sees s said x
+  tlvs-refused p e h = sees-as (as-refused tlvs says s (16 + a) 9 p (spelt (refused 9 p) e) h) at-tlvs
 
   -- the TLV area is the part of the header behind the address block
   area-said : (m : ℕ) → areaOf 2 k (take (16 + a + m) s) ≡ take m behind
@@ -126,10 +127,10 @@ module _ {k : Kind} {n a : ℕ} {s : List ℕ} (here : Reached k n a s) where
       ∙ ap (λ (j : ℕ). drop (16 + j) (take (16 + a + m) s)) (sym (here .block))
       ∙ area-at s (16 + a) m (here .whole)
 
-  pub tlvs-accepted : (v m : ℕ) {r : Reading} → accepted v m ≡ judge 9 (n - a) behind
-      → Answers s (accepted (blocked (blockRecord k (drop 16 s)) (areaOf 2 k (take (16 + a + m) s))) (16 + a + m)) r → Answers s said r
+  pub tlvs-accepted : (v m : ℕ) {x : Seen} → accepted v m ≡ judge 9 (n - a) behind
+      → Sees s (accepted (blocked (blockRecord k (drop 16 s)) (areaOf 2 k (take (16 + a + m) s))) (16 + a + m)) x → Sees s said x
   tlvs-accepted v m e h =
-      answers-as
+      sees-as
       (as-accepted tlvs says s (16 + a) (take m behind) m (spelt (accepted v m) e)
       (as-block s (16 + a + m) (blockRecord k (drop 16 s)) (recordAt k 16 s) (take m behind) (record-at k 16 s) (area-said m) h))
       at-tlvs

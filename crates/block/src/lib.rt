@@ -25,8 +25,8 @@ ghost use Rattle.record.specs.Kinds.{blockLength};
 ghost use Rattle.record.specs.Records.{bare};
 ghost use Rattle.header.specs.BlockFields.{blocked, block as blockField, command as commandField, commandRest, familyField, familyRest, skipped as skippedField, addressed as addressedField, addresses as addressesField, fits as fitsIn};
 ghost use Rattle.record.specs.AddressBlock.{blockRecord};
-ghost use Rattle.answer.specs.Answers.{Answers, areaOf};
-ghost use Rattle.answer.specs.Sight.{readingOf};
+ghost use Rattle.answer.specs.Answers.{areaOf};
+ghost use Rattle.answer.specs.Sight.{Sees};
 ghost use Rattle.block.specs.Parts.{numberAt};
 
 // The number at a place, high byte first.
@@ -40,22 +40,25 @@ fn number(s: &[u8], at: usize) -> u16
 }
 
 // "L must be A, or at least A + 3."
-fn fits(length: usize, kind: Kind) -> bool
-    ensures { λ r. ⌜ r ≡ fitsIn (blockLength kind) length ⌝ }
+fn fits(size: usize, kind: Kind) -> bool
+    ensures { λ r. ⌜ r ≡ fitsIn (blockLength kind) size ⌝ }
 {
     let block = block_length(kind);
-    if length == block {
+    if size == block {
         return true;
     }
-    block + 3 <= length
+    block + 3 <= size
 }
 
-// The answer to bytes that begin with a header of this length and kind: the address block stands in them from 16 on.
-fn accepted(length: usize, kind: Kind) -> Seen
-    ensures { λ r. ⌜ ((s : List ℕ) → Answers s (acceptedOf (blocked (blockRecord kind (drop 16 s)) (areaOf 2 kind (take length s))) length) (readingOf s r)) ⌝ }
+// The answer to bytes that begin with a header of this size and kind: the address block stands in them from 16 on.
+fn accepted(size: usize, kind: Kind) -> Seen
+    ensures { λ r. ⌜ ((s : List ℕ) → Sees s (acceptedOf (blocked (blockRecord kind (drop 16 s)) (areaOf 2 kind (take size s))) size) r) ⌝ }
 {
     Seen {
-        verdict: Verdict::Accepted { length, version: 2 },
+        verdict: Verdict::Accepted {
+            length: size,
+            version: 2,
+        },
         caller: of_kind(kind),
     }
 }
@@ -63,7 +66,7 @@ fn accepted(length: usize, kind: Kind) -> Seen
 // From 14 on, where the block is not looked at.
 fn skipped(s: &[u8], kind: Kind) -> Seen
     requires { ⌜ blockLength kind ≡ 0 ⌝ }
-    ensures { λ r. ⌜ Answers (now (s .entry)) (shift 14 (skippedField (bare kind) .verdict (drop 14 (now (s .entry))))) (readingOf (now (s .entry)) r) ⌝ }
+    ensures { λ r. ⌜ Sees (now (s .entry)) (shift 14 (skippedField (bare kind) .verdict (drop 14 (now (s .entry))))) r ⌝ }
 {
     if s.len() < 16 {
         return more();
@@ -76,16 +79,16 @@ fn skipped(s: &[u8], kind: Kind) -> Seen
 }
 
 // From 16 on: the address block, and the TLVs that fill the rest of the length.
-fn addresses(s: &[u8], kind: Kind, length: usize) -> Seen
-    requires { ⌜ (blockLength kind ≡ 0 → ⊥) × (fitsIn (blockLength kind) length ≡ true) ⌝ }
-    ensures { λ r. ⌜ Answers (now (s .entry)) (shift 16 (addressesField kind length .verdict (drop 16 (now (s .entry))))) (readingOf (now (s .entry)) r) ⌝ }
+fn addresses(s: &[u8], kind: Kind, size: usize) -> Seen
+    requires { ⌜ (blockLength kind ≡ 0 → ⊥) × (fitsIn (blockLength kind) size ≡ true) ⌝ }
+    ensures { λ r. ⌜ Sees (now (s .entry)) (shift 16 (addressesField kind size .verdict (drop 16 (now (s .entry))))) r ⌝ }
 {
     let block = block_length(kind);
     let at = 16 + block;
     if s.len() < at {
         return more();
     }
-    match region(&s[at..], length - block) {
+    match region(&s[at..], size - block) {
         Scan::More => more(),
         Scan::Refused(place) => refused(Refusal::Tlv, at + place),
         Scan::Accepted(_, n) => accepted(at + n, kind),
@@ -95,14 +98,14 @@ fn addresses(s: &[u8], kind: Kind, length: usize) -> Seen
 // From 14 on, for a kind with addresses.
 fn addressed(s: &[u8], kind: Kind) -> Seen
     requires { ⌜ (blockLength kind ≡ 0 → ⊥) ⌝ }
-    ensures { λ r. ⌜ Answers (now (s .entry)) (shift 14 (addressedField kind .verdict (drop 14 (now (s .entry))))) (readingOf (now (s .entry)) r) ⌝ }
+    ensures { λ r. ⌜ Sees (now (s .entry)) (shift 14 (addressedField kind .verdict (drop 14 (now (s .entry))))) r ⌝ }
 {
     if s.len() < 16 {
         return more();
     }
-    let length = number(s, 14) as usize;
-    if fits(length, kind) {
-        addresses(s, kind, length)
+    let size = number(s, 14) as usize;
+    if fits(size, kind) {
+        addresses(s, kind, size)
     } else {
         refused(Refusal::Length, 15)
     }
@@ -110,7 +113,7 @@ fn addressed(s: &[u8], kind: Kind) -> Seen
 
 // From 14 on, under PROXY.
 fn family_rest(s: &[u8], kind: Kind) -> Seen
-    ensures { λ r. ⌜ Answers (now (s .entry)) (shift 14 (familyRest kind .verdict (drop 14 (now (s .entry))))) (readingOf (now (s .entry)) r) ⌝ }
+    ensures { λ r. ⌜ Sees (now (s .entry)) (shift 14 (familyRest kind .verdict (drop 14 (now (s .entry))))) r ⌝ }
 {
     if block_length(kind) == 0 {
         skipped(s, kind)
@@ -121,7 +124,7 @@ fn family_rest(s: &[u8], kind: Kind) -> Seen
 
 // From byte 13 on, under PROXY.
 fn proxy(s: &[u8]) -> Seen
-    ensures { λ r. ⌜ Answers (now (s .entry)) (shift 13 ((familyField then familyRest) .verdict (drop 13 (now (s .entry))))) (readingOf (now (s .entry)) r) ⌝ }
+    ensures { λ r. ⌜ Sees (now (s .entry)) (shift 13 ((familyField then familyRest) .verdict (drop 13 (now (s .entry))))) r ⌝ }
 {
     if s.len() <= 13 {
         return more();
@@ -134,7 +137,7 @@ fn proxy(s: &[u8]) -> Seen
 
 // From byte 12 on; under LOCAL byte 13 is not looked at.
 fn command(s: &[u8]) -> Seen
-    ensures { λ r. ⌜ Answers (now (s .entry)) (shift 12 ((commandField then commandRest) .verdict (drop 12 (now (s .entry))))) (readingOf (now (s .entry)) r) ⌝ }
+    ensures { λ r. ⌜ Sees (now (s .entry)) (shift 12 ((commandField then commandRest) .verdict (drop 12 (now (s .entry))))) r ⌝ }
 {
     if s.len() <= 12 {
         return more();
@@ -148,7 +151,7 @@ fn command(s: &[u8]) -> Seen
 
 // Whether s begins with a version 2 header; nothing behind the header is looked at.
 pub fn block(s: &[u8]) -> Seen
-    ensures { λ r. ⌜ Answers (now (s .entry)) (blockField .verdict (now (s .entry))) (readingOf (now (s .entry)) r) ⌝ }
+    ensures { λ r. ⌜ Sees (now (s .entry)) (blockField .verdict (now (s .entry))) r ⌝ }
 {
     match literal(s, b"\r\n\r\n\0\r\nQUIT\n") {
         Scan::More => more(),

@@ -1,5 +1,5 @@
--- For proofs. The bytes of an address that the code gathers are those that its field says.
-use mathlib.Core.Path.{_≡_, refl, sym, ap, _∙_, subst}
+-- For proofs. The bytes of an address that the code gathers are those that its field says, with zeros behind them.
+use mathlib.Core.Path.{_≡_, refl, sym, ap, ap₂, _∙_, subst}
 use mathlib.Core.Bool.{Bool}
 use mathlib.Core.List.{List, [], _∷_}
 use Prim.Native.Nat.{ℕ, _+_, _-_, _/_, _%_}
@@ -10,11 +10,15 @@ use Rattle.exact.specs.Field.{Exact, after}
 use Rattle.exact.specs.declared.Scan.{Scan}
 use Rattle.exact.specs.declared.Scan.the-variants.{Accepted, More, Refused}
 use Rattle.exact.specs.Parser.{tail-all}
-use Rattle.exact.specs.Told.{heard}
+use Rattle.exact.specs.Told.{heard, ZeroUnless}
+use Rattle.record.specs.declared.Kind.{Kind}
+use Rattle.record.specs.Kinds.{addressLength}
 use Rattle.ip6.specs.Bounds.{address-bounds}
 use Rattle.header.specs.Line.{groupBytes}
 use Rattle.header.specs.Exactness.{address4, groups, address6}
-use Rattle.line.specs.Families.{toldBytes, width, field}
+use Rattle.answer.specs.declared.Caller.{Caller}
+use Rattle.answer.specs.Sight.{callerRecord, callerOf}
+use Rattle.line.specs.Families.{kindOf, toldBytes, padded, Unused, width, field}
 
 -- an accepted IPv4 address has four octets
 octets-four : (s octets : List ℕ) (n : ℕ) → accepted octets n ≡ address4 .verdict s → length octets ≡ 4
@@ -23,11 +27,11 @@ octets-four s octets n e =
     ap length (x .whole .whole .value)
 
 -- its octets, at the front of sixteen bytes
-abbrev pub padded : List ℕ → List ℕ
-padded o =
+abbrev pub octetBytes : List ℕ → List ℕ
+octetBytes o =
     getD o 0 0 ∷ getD o 1 0 ∷ getD o 2 0 ∷ getD o 3 0 ∷ 0 ∷ 0 ∷ 0 ∷ 0 ∷ 0 ∷ 0 ∷ 0 ∷ 0 ∷ 0 ∷ 0 ∷ 0 ∷ 0 ∷ []
 
-four : (o : List ℕ) → length o ≡ 4 → take 4 (padded o) ≡ o
+four : (o : List ℕ) → length o ≡ 4 → take 4 (octetBytes o) ≡ o
 four [] h = absurd (omega arith)
 four (a ∷ []) h = absurd (omega arith)
 four (a ∷ b ∷ []) h = absurd (omega arith)
@@ -36,10 +40,15 @@ four (a ∷ b ∷ c ∷ d ∷ []) h = refl
 four (a ∷ b ∷ c ∷ d ∷ e ∷ o) h = absurd (omega arith)
 
 pub told4 : (scan : Scan) (octets s : List ℕ) → heard 3 scan octets ≡ address4 .verdict s
-    → toldBytes 4 scan (padded octets) ≡ address4 .verdict s
+    → toldBytes 4 scan (octetBytes octets) ≡ address4 .verdict s
 told4 (Accepted v n) octets s e = ap (λ (o : List ℕ). accepted o n) (four octets (octets-four s octets n e)) ∙ e
 told4 More octets s e = e
 told4 (Refused p) octets s e = e
+
+pub unused4 : (scan : Scan) (octets : List ℕ) → ZeroUnless 4 scan octets → Unused 4 scan (octetBytes octets)
+unused4 (Accepted v n) octets z = (z, refl)
+unused4 More octets z = ap octetBytes z
+unused4 (Refused p) octets z = ap octetBytes z
 
 -- an accepted IPv6 address has eight groups
 groups-eight : (s gs : List ℕ) (n : ℕ) → accepted gs n ≡ groups .verdict s → length gs ≡ 8
@@ -84,8 +93,29 @@ told6 (Accepted v n) gs s e =
 told6 More gs s e = ap (λ (w : Verdict (List ℕ)). after w (λ a r. accepted (groupBytes a) 0) s) e
 told6 (Refused p) gs s e = ap (λ (w : Verdict (List ℕ)). after w (λ a r. accepted (groupBytes a) 0) s) e
 
+pub unused6 : (scan : Scan) (gs s : List ℕ) → heard 3 scan gs ≡ groups .verdict s → ZeroUnless 8 scan gs → Unused 16 scan (groupBytes gs)
+unused6 (Accepted v n) gs s e z = (z, subst (λ (b : List ℕ). b ≡ padded (take 16 b)) (eight gs (groups-eight s gs n e)) refl)
+unused6 More gs s e z = ap groupBytes z
+unused6 (Refused p) gs s e z = ap groupBytes z
+
 -- what a scan of the address from `at` on found, as a verdict on it
 pub said-found : (six : Bool) (s : List ℕ) (at : ℕ) (bytes : List ℕ) {r x : Scan} → r ≡ x
     → toldBytes (width six) r bytes ≡ field six .verdict (take (length s - at) (drop at s)) → toldBytes (width six) x bytes ≡ field six .verdict (drop at s)
 said-found six s at bytes e h =
     ap (λ (y : Scan). toldBytes (width six) y bytes) (sym e) ∙ h ∙ ap (λ (t : List ℕ). field six .verdict t) (tail-all at s)
+
+-- an accepted address has zeros behind it
+pub found-padded : (n : ℕ) (bytes : List ℕ) {r : Scan} {v size : ℕ} → r ≡ Accepted v size → Unused n r bytes → bytes ≡ padded (take n bytes)
+found-padded n bytes e u = subst (λ (x : Scan). Unused n x bytes) e u .1
+
+abbrev callerWith : Kind → List ℕ → List ℕ → ℕ → ℕ → Caller
+callerWith k from to p q = record { kind = k; source = from; destination = to; «source_port» = p; «destination_port» = q }
+
+-- a caller whose addresses have zeros behind them is that of its own record
+pub own-caller : (six : Bool) (k : Kind) (from to : List ℕ) (p q : ℕ) → k ≡ kindOf six → from ≡ padded (take (width six) from) → to ≡ padded (take (width six) to)
+    → callerOf (callerRecord (callerWith k from to p q)) ≡ callerWith k from to p q
+own-caller six k from to p q e source destination =
+    ap₂ (λ (x y : List ℕ). callerWith k x y p q) (again from source) (again to destination)
+  where
+    again : (a : List ℕ) → a ≡ padded (take (width six) a) → padded (take (addressLength k) a) ≡ a
+    again a z = ap (λ (j : Kind). padded (take (addressLength j) a)) e ∙ sym z

@@ -1,8 +1,9 @@
 -- For proofs. What the families of a TCP line differ in: six is true for TCP6.
+use mathlib.Core.Path.{_≡_}
 use mathlib.Core.Bool.{Bool, true, false}
 use mathlib.Core.List.{List}
 use Prim.Native.Nat.{ℕ}
-use lib.ListN.{take}
+use lib.ListN.{take, replicate}
 use Rattle.exact.specs.Claim.{Verdict, accepted, more, refused}
 use Rattle.exact.specs.Parser.{Parser}
 use Rattle.exact.specs.declared.Scan.{Scan}
@@ -11,6 +12,7 @@ use Rattle.record.specs.declared.Transport.the-variants.{Stream}
 use Rattle.record.specs.declared.Kind.{Kind}
 use Rattle.record.specs.declared.Kind.the-variants.{Ip4, Ip6}
 use Rattle.record.specs.Kinds.{addressLength}
+use Rattle.record.specs.Records.{held}
 use Rattle.header.specs.Exactness.{address4, address6}
 
 abbrev pub kindOf : Bool → Kind
@@ -29,3 +31,13 @@ abbrev pub toldBytes : ℕ → Scan → List ℕ → Verdict (List ℕ)
 toldBytes n (Accepted v size) bytes = accepted (take n bytes) size
 toldBytes n More bytes = more
 toldBytes n (Refused p) bytes = refused 3 p
+
+-- an address as a caller holds it: sixteen bytes, with zeros behind it
+abbrev pub padded : List ℕ → List ℕ
+padded address = take 16 (held address)
+
+-- what such an answer does not use is 0: the scan's own number and the bytes behind the address where it is accepted, and all bytes where it is not
+abbrev pub Unused : ℕ → Scan → List ℕ → Type 0
+Unused n (Accepted v size) bytes = (v ≡ 0) × (bytes ≡ padded (take n bytes))
+Unused n More bytes = bytes ≡ replicate 16 0
+Unused n (Refused p) bytes = bytes ≡ replicate 16 0

@@ -4,7 +4,7 @@ ghost use mathlib.Core.Path.{_≡_};
 ghost use Prim.Native.Nat.{_/_, _%_};
 ghost use Rattle.header.specs.Line.{groupBytes};
 ghost use Rattle.header.specs.Exactness.{address4 as fieldOf4, address6 as fieldOf6};
-ghost use Rattle.line.specs.Families.{toldBytes, width, field};
+ghost use Rattle.line.specs.Families.{toldBytes, Unused, width, field};
 
 // The high byte of a group.
 fn high(group: u16) -> u8
@@ -44,36 +44,26 @@ fn group_bytes(groups: [u16; 8]) -> [u8; 16]
     ]
 }
 
-// The octets of an IPv4 address, in the first 4 of the bytes.
+// The octets of an IPv4 address, in the first 4 of the bytes, with zeros behind them.
 fn address4(s: &[u8], bytes: &mut [u8; 16]) -> Scan
-    ensures { λ r. ⌜ toldBytes 4 r (now (bytes .exit)) ≡ fieldOf4 .verdict (now (s .entry)) ⌝ }
+    ensures verdict { λ r. ⌜ toldBytes 4 r (now (bytes .exit)) ≡ fieldOf4 .verdict (now (s .entry)) ⌝ }
+    ensures unused { λ r. ⌜ Unused 4 r (now (bytes .exit)) ⌝ }
 {
     let found = text::ip4(s, b' ');
     let scan = found.scan;
     let octets = found.octets;
-    *bytes = [
-        octets[0],
-        octets[1],
-        octets[2],
-        octets[3],
-        0,
-        0,
-        0,
-        0,
-        0,
-        0,
-        0,
-        0,
-        0,
-        0,
-        0,
-        0,
-    ];
+    let mut padded = [0u8; 16];
+    padded[0] = octets[0];
+    padded[1] = octets[1];
+    padded[2] = octets[2];
+    padded[3] = octets[3];
+    *bytes = padded;
     scan
 }
 
 fn address6(s: &[u8], bytes: &mut [u8; 16]) -> Scan
-    ensures { λ r. ⌜ toldBytes 16 r (now (bytes .exit)) ≡ fieldOf6 .verdict (now (s .entry)) ⌝ }
+    ensures verdict { λ r. ⌜ toldBytes 16 r (now (bytes .exit)) ≡ fieldOf6 .verdict (now (s .entry)) ⌝ }
+    ensures unused { λ r. ⌜ Unused 16 r (now (bytes .exit)) ⌝ }
 {
     let found = ip6::address(s, b' ');
     let scan = found.scan;
@@ -82,9 +72,11 @@ fn address6(s: &[u8], bytes: &mut [u8; 16]) -> Scan
     scan
 }
 
-// The address of a TCP6 line if six, else of a TCP4 line, at the front of the bytes where it is accepted.
+// The address of a TCP6 line if six, else of a TCP4 line, at the front of the bytes; what it leaves of them, or all where no address is accepted,
+// is zero.
 pub(crate) fn address(s: &[u8], six: bool, bytes: &mut [u8; 16]) -> Scan
-    ensures { λ r. ⌜ toldBytes (width six) r (now (bytes .exit)) ≡ field six .verdict (now (s .entry)) ⌝ }
+    ensures verdict { λ r. ⌜ toldBytes (width six) r (now (bytes .exit)) ≡ field six .verdict (now (s .entry)) ⌝ }
+    ensures unused { λ r. ⌜ Unused (width six) r (now (bytes .exit)) ⌝ }
 {
     if six {
         address6(s, bytes)

@@ -19,9 +19,8 @@ ghost use lib.ListN.{length, drop, take};
 ghost use Rattle.exact.specs.Field.{shift};
 ghost use Rattle.header.specs.LineFields.{lined, lineFeed, fromDestinationPort, fromSourcePort, fromDestination, fromSource, tcps, unknownEnd, unknown};
 ghost use Rattle.header.specs.Exactness.{address4, address6, lineField};
-ghost use Rattle.answer.specs.Answers.{Answers};
-ghost use Rattle.answer.specs.Sight.{callerRecord, readingOf};
-ghost use Rattle.line.specs.Families.{kindOf, width, field};
+ghost use Rattle.answer.specs.Sight.{callerRecord, callerOf, Sees};
+ghost use Rattle.line.specs.Families.{kindOf, width, field, padded};
 ghost use Rattle.line.specs.Choices.{fromSpace, isFamily, families, fromRest, words};
 
 // TCP6 if six, else TCP4.
@@ -35,10 +34,10 @@ fn kind_of(six: bool) -> Kind
     }
 }
 
-// The LF that ends the line.
+// The LF that ends the line. The caller is that of its own record: it has zeros behind its addresses.
 fn line_feed(s: &[u8], at: usize, caller: Caller) -> Seen
-    requires { ⌜ at ≤ length (now s) ⌝ }
-    ensures { λ r. ⌜ Answers (now (s .entry)) (shift at (lineFeed (lined (callerRecord caller)) .verdict (drop at (now (s .entry))))) (readingOf (now (s .entry)) r) ⌝ }
+    requires { ⌜ (at ≤ length (now s)) × (callerOf (callerRecord caller) ≡ caller) ⌝ }
+    ensures { λ r. ⌜ Sees (now (s .entry)) (shift at (lineFeed (lined (callerRecord caller)) .verdict (drop at (now (s .entry))))) r ⌝ }
 {
     match literal(&s[at..], b"\n") {
         Scan::More => more(),
@@ -61,8 +60,8 @@ fn from_destination_port(
     to: [u8; 16],
     p: u16,
 ) -> Seen
-    requires { ⌜ at ≤ length (now s) ⌝ }
-    ensures { λ r. ⌜ Answers (now (s .entry)) (shift at (fromDestinationPort (kindOf six) (take (width six) from) (take (width six) to) p .verdict (drop at (now (s .entry))))) (readingOf (now (s .entry)) r) ⌝ }
+    requires { ⌜ (at ≤ length (now s)) × (from ≡ padded (take (width six) from)) × (to ≡ padded (take (width six) to)) ⌝ }
+    ensures { λ r. ⌜ Sees (now (s .entry)) (shift at (fromDestinationPort (kindOf six) (take (width six) from) (take (width six) to) p .verdict (drop at (now (s .entry))))) r ⌝ }
 {
     match text::decimal(&s[at..], 65535, b'\r') {
         Scan::More => more(),
@@ -81,8 +80,8 @@ fn from_destination_port(
 }
 
 fn from_source_port(s: &[u8], at: usize, six: bool, from: [u8; 16], to: [u8; 16]) -> Seen
-    requires { ⌜ at ≤ length (now s) ⌝ }
-    ensures { λ r. ⌜ Answers (now (s .entry)) (shift at (fromSourcePort (kindOf six) (take (width six) from) (take (width six) to) .verdict (drop at (now (s .entry))))) (readingOf (now (s .entry)) r) ⌝ }
+    requires { ⌜ (at ≤ length (now s)) × (from ≡ padded (take (width six) from)) × (to ≡ padded (take (width six) to)) ⌝ }
+    ensures { λ r. ⌜ Sees (now (s .entry)) (shift at (fromSourcePort (kindOf six) (take (width six) from) (take (width six) to) .verdict (drop at (now (s .entry))))) r ⌝ }
 {
     match text::decimal(&s[at..], 65535, b' ') {
         Scan::More => more(),
@@ -92,8 +91,8 @@ fn from_source_port(s: &[u8], at: usize, six: bool, from: [u8; 16], to: [u8; 16]
 }
 
 fn from_destination(s: &[u8], at: usize, six: bool, from: [u8; 16]) -> Seen
-    requires { ⌜ at ≤ length (now s) ⌝ }
-    ensures { λ r. ⌜ Answers (now (s .entry)) (shift at (fromDestination (kindOf six) (field six) (take (width six) from) .verdict (drop at (now (s .entry))))) (readingOf (now (s .entry)) r) ⌝ }
+    requires { ⌜ (at ≤ length (now s)) × (from ≡ padded (take (width six) from)) ⌝ }
+    ensures { λ r. ⌜ Sees (now (s .entry)) (shift at (fromDestination (kindOf six) (field six) (take (width six) from) .verdict (drop at (now (s .entry))))) r ⌝ }
 {
     let mut to = [0u8; 16];
     match address(&s[at..], six, &mut to) {
@@ -105,7 +104,7 @@ fn from_destination(s: &[u8], at: usize, six: bool, from: [u8; 16]) -> Seen
 
 fn from_source(s: &[u8], at: usize, six: bool) -> Seen
     requires { ⌜ at ≤ length (now s) ⌝ }
-    ensures { λ r. ⌜ Answers (now (s .entry)) (shift at (fromSource (kindOf six) (field six) .verdict (drop at (now (s .entry))))) (readingOf (now (s .entry)) r) ⌝ }
+    ensures { λ r. ⌜ Sees (now (s .entry)) (shift at (fromSource (kindOf six) (field six) .verdict (drop at (now (s .entry))))) r ⌝ }
 {
     let mut from = [0u8; 16];
     match address(&s[at..], six, &mut from) {
@@ -118,7 +117,7 @@ fn from_source(s: &[u8], at: usize, six: bool) -> Seen
 // The space behind the word.
 fn from_space(s: &[u8], at: usize, six: bool) -> Seen
     requires { ⌜ at ≤ length (now s) ⌝ }
-    ensures { λ r. ⌜ Answers (now (s .entry)) (shift at (fromSpace six .verdict (drop at (now (s .entry))))) (readingOf (now (s .entry)) r) ⌝ }
+    ensures { λ r. ⌜ Sees (now (s .entry)) (shift at (fromSpace six .verdict (drop at (now (s .entry))))) r ⌝ }
 {
     match literal(&s[at..], b" ") {
         Scan::More => more(),
@@ -136,7 +135,7 @@ fn is_family(c: u8) -> bool
 // Behind "TCP": 4 or 6.
 fn from_family(s: &[u8], at: usize) -> Seen
     requires { ⌜ at ≤ length (now s) ⌝ }
-    ensures { λ r. ⌜ Answers (now (s .entry)) (shift at (families .verdict (drop at (now (s .entry))))) (readingOf (now (s .entry)) r) ⌝ }
+    ensures { λ r. ⌜ Sees (now (s .entry)) (shift at (families .verdict (drop at (now (s .entry))))) r ⌝ }
 {
     if s.len() <= at {
         return more();
@@ -150,7 +149,7 @@ fn from_family(s: &[u8], at: usize) -> Seen
 
 fn from_tcp(s: &[u8], at: usize) -> Seen
     requires { ⌜ at ≤ length (now s) ⌝ }
-    ensures { λ r. ⌜ Answers (now (s .entry)) (shift at (tcps address4 address6 .verdict (drop at (now (s .entry))))) (readingOf (now (s .entry)) r) ⌝ }
+    ensures { λ r. ⌜ Sees (now (s .entry)) (shift at (tcps address4 address6 .verdict (drop at (now (s .entry))))) r ⌝ }
 {
     match literal(&s[at..], b"TCP") {
         Scan::More => more(),
@@ -162,7 +161,7 @@ fn from_tcp(s: &[u8], at: usize) -> Seen
 // Behind "PROXY UNKNOWN ": 14 of the line's 107 bytes have come.
 fn from_rest(s: &[u8], at: usize) -> Seen
     requires { ⌜ at ≤ length (now s) ⌝ }
-    ensures { λ r. ⌜ Answers (now (s .entry)) (shift at (fromRest .verdict (drop at (now (s .entry))))) (readingOf (now (s .entry)) r) ⌝ }
+    ensures { λ r. ⌜ Sees (now (s .entry)) (shift at (fromRest .verdict (drop at (now (s .entry))))) r ⌝ }
 {
     match text::line_end(&s[at..], 93) {
         Scan::More => more(),
@@ -180,7 +179,7 @@ fn from_rest(s: &[u8], at: usize) -> Seen
 // Behind "UNKNOWN": CR LF at once, or a space.
 fn from_unknown_end(s: &[u8], at: usize) -> Seen
     requires { ⌜ at ≤ length (now s) ⌝ }
-    ensures { λ r. ⌜ Answers (now (s .entry)) (shift at (unknownEnd .verdict (drop at (now (s .entry))))) (readingOf (now (s .entry)) r) ⌝ }
+    ensures { λ r. ⌜ Sees (now (s .entry)) (shift at (unknownEnd .verdict (drop at (now (s .entry))))) r ⌝ }
 {
     if s.len() <= at {
         return more();
@@ -197,7 +196,7 @@ fn from_unknown_end(s: &[u8], at: usize) -> Seen
 
 fn from_unknown(s: &[u8], at: usize) -> Seen
     requires { ⌜ at ≤ length (now s) ⌝ }
-    ensures { λ r. ⌜ Answers (now (s .entry)) (shift at (unknown .verdict (drop at (now (s .entry))))) (readingOf (now (s .entry)) r) ⌝ }
+    ensures { λ r. ⌜ Sees (now (s .entry)) (shift at (unknown .verdict (drop at (now (s .entry))))) r ⌝ }
 {
     match literal(&s[at..], b"UNKNOWN") {
         Scan::More => more(),
@@ -209,7 +208,7 @@ fn from_unknown(s: &[u8], at: usize) -> Seen
 // Behind "PROXY ": the word.
 fn from_word(s: &[u8], at: usize) -> Seen
     requires { ⌜ at ≤ length (now s) ⌝ }
-    ensures { λ r. ⌜ Answers (now (s .entry)) (shift at (words .verdict (drop at (now (s .entry))))) (readingOf (now (s .entry)) r) ⌝ }
+    ensures { λ r. ⌜ Sees (now (s .entry)) (shift at (words .verdict (drop at (now (s .entry))))) r ⌝ }
 {
     if s.len() <= at {
         return more();
@@ -223,7 +222,7 @@ fn from_word(s: &[u8], at: usize) -> Seen
 
 // A version 1 line.
 pub fn line(s: &[u8]) -> Seen
-    ensures { λ r. ⌜ Answers (now (s .entry)) (lineField .verdict (now (s .entry))) (readingOf (now (s .entry)) r) ⌝ }
+    ensures { λ r. ⌜ Sees (now (s .entry)) (lineField .verdict (now (s .entry))) r ⌝ }
 {
     match literal(s, b"PROXY ") {
         Scan::More => more(),

@@ -12,15 +12,15 @@ use Rattle.header.specs.Header.{Header}
 use Rattle.header.specs.Demand.{Judges}
 use Rattle.header.specs.BlockFields.{block}
 use Rattle.header.specs.Exactness.{isP, lineField, verdict, judges}
-use Rattle.answer.specs.declared.Reading.{Reading}
-use Rattle.answer.specs.Answers.{Answers}
-use Rattle.answer.specs.StageLaws.{answers-as}
+use Rattle.answer.specs.declared.Seen.{Seen}
+use Rattle.answer.specs.Sight.{readingOf, callerBy, Sees}
+use Rattle.answer.specs.StageLaws.{sees-as}
 use Rattle.reader.specs.Read.{Reads}
 
-pub reads-as : {s : List ℕ} {v : Verdict Header} {r : Reading} → Answers s v r → v ≡ verdict s → Reads s r
-reads-as {s} {r = r} a e =
-    let here = answers-as a e in
-    record { judged = subst (λ (v : Verdict Header). Judges v s) (sym (here .told)) (judges s); answers = here }
+pub reads-as : {s : List ℕ} {v : Verdict Header} {x : Seen} → Sees s v x → v ≡ verdict s → Reads s (readingOf s x) × (x .caller ≡ callerBy (verdict s))
+reads-as {s} a e =
+    let here = sees-as a e in
+    (record { judged = subst (λ (v : Verdict Header). Judges v s) (sym (here .answers .told)) (judges s); answers = here .answers }, here .caller)
 
 pub none-yet : (s : List ℕ) → length s ≡ 0 → more ≡ verdict s
 none-yet [] e = refl

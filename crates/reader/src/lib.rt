@@ -15,13 +15,16 @@ use record::record_from;
 ghost use mathlib.Core.Path.{_≡_};
 ghost use Prim.Native.Nat.{_+_};
 ghost use lib.ListN.{length};
-ghost use Rattle.answer.specs.Sight.{inBytes, recordBy, readingOf};
+ghost use Rattle.header.specs.Exactness.{verdict as verdictOn};
+ghost use Rattle.answer.specs.Sight.{inBytes, recordBy, readingOf, callerBy};
 ghost use Rattle.reader.specs.Read.{Reads};
 ghost use Rattle.reader.specs.Area.{blockEnd, areaStart, areaEnd, readArea};
 
-// What is seen in the bytes so far: demand 3 of document 01, for every s, before a record is made.
+// What is seen in the bytes so far: demand 3 of document 01, for every s, before a record is made. The caller is the
+// verdict's, down to the bytes that no address uses.
 pub fn scan(s: &[u8]) -> Seen
-    ensures { λ r. ⌜ Reads (now (s .entry)) (readingOf (now (s .entry)) r) ⌝ }
+    ensures reads { λ r. ⌜ Reads (now (s .entry)) (readingOf (now (s .entry)) r) ⌝ }
+    ensures caller { λ r. ⌜ r .caller ≡ callerBy (verdictOn (now (s .entry))) ⌝ }
 {
     if s.len() == 0 {
         return more();

@@ -5,11 +5,12 @@ use borrow.Author.Needs.{needs}
 use Rattle.answer.proofs.more.Statement.{statement}
 use Rattle.answer.proofs.more.Tie as tie
 
-of-kind-requires : tie.Need-of-kind-requires
-of-kind-requires c κs = search needs
-
 returns : tie.Need-returns
-returns c s = record { told = refl; unused = ap callerRecord (c .of-kind .ensures) }
+returns c s =
+    record {
+      answers = record { told = refl; unused = ap callerRecord (c .of-kind .ensures) };
+      caller = c .of-kind .ensures;
+    }
 
 pub more-spec : {M : Type 1} → statement M
-more-spec = tie.close (tie.spec of-kind-requires returns)
+more-spec = tie.close (tie.spec (λ c κs. search needs) returns)

@@ -10,16 +10,17 @@ use borrow.Author.Needs.{needs}
 use Rattle.block.proofs.accepted.Statement.{statement}
 use Rattle.block.proofs.accepted.Tie as tie
 
-of-kind-requires : tie.Need-of-kind-requires
-of-kind-requires c κs = search needs
-
 returns : tie.Need-returns
 returns c s =
-    let length = c .before .args .length in
+    let n = c .before .args .size in
     record {
-      told = ap (λ (x : Caller). acceptedOf (blocked (blockRecord (x .kind) (drop 16 s)) (areaOf 2 (x .kind) (take length s))) length) (c .of-kind .ensures);
-      unused = tt;
+      answers =
+          record {
+            told = ap (λ (x : Caller). acceptedOf (blocked (blockRecord (x .kind) (drop 16 s)) (areaOf 2 (x .kind) (take n s))) n) (c .of-kind .ensures);
+            unused = tt;
+          };
+      caller = c .of-kind .ensures;
     }
 
 pub accepted-spec : {M : Type 1} → statement M
-accepted-spec = tie.close (tie.spec of-kind-requires returns)
+accepted-spec = tie.close (tie.spec (λ c κs. search needs) returns)

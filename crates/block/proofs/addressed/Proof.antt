@@ -10,7 +10,7 @@ use Rattle.exact.specs.Claim.{AllBytes, accepted, refused}
 use Rattle.record.specs.declared.Kind.{Kind}
 use Rattle.record.specs.Kinds.{blockLength}
 use Rattle.header.specs.BlockFields.{fits, blockLengthField, addresses, addressed}
-use Rattle.answer.specs.StageLaws.{answers-as, as-refused, as-accepted}
+use Rattle.answer.specs.StageLaws.{sees-as, as-refused, as-accepted}
 use Rattle.block.specs.Parts.{numberAt}
 use Rattle.block.specs.Takes.{bytes-of, bytes-drop, next-short, short-at}
 use Rattle.block.specs.Leaves.{number-short, number-full}
@@ -41,33 +41,18 @@ module _ (c : tie.After-fits2) where
   judged : (b : Bool) → c .fits2 .result ≡ b → fits (blockLength (kind start)) (numberAt (drop 14 (text start))) ≡ b
   judged b e = ap (fits (blockLength (kind start))) (sym (c .before .number .ensures)) ∙ sym (c .fits2 .ensures) ∙ e
 
-more-requires : tie.Need-more-requires
-more-requires c κs = search needs
-
 returns : tie.Need-returns
 returns c =
     let ran = c .before .before in
-    answers-as (c .more .ensures (text ran))
+    sees-as (c .more .ensures (text ran))
     (short-at (addressed (kind ran) .verdict) 2
     (next-short (blockLengthField (kind ran) .verdict) (λ n. addresses (kind ran) n .verdict) 2 (number-short (fits (blockLength (kind ran))) 8)) (text ran)
     (all ran) 14 (let h = c .before .if1 .taken in omega arith))
-
-number-requires : tie.Need-number-requires
-number-requires c κs = search needs
-
-cast-length : tie.Need-cast-length
-cast-length c = search needs
-
-fits-requires : tie.Need-fits-requires
-fits-requires c κs = search needs
 
 addresses-requires : tie.Need-addresses-requires
 addresses-requires c κs =
     let ran = c .before in
     (start ran .before .pre, sym (ran .fits2 .ensures) ∙ c .if2 .taken)
-
-refused-requires : tie.Need-refused-requires
-refused-requires c κs = search needs
 
 returns-2 : tie.Need-returns-2
 returns-2 c =
@@ -92,12 +77,12 @@ pub addressed-spec : {M : Type 1} → statement M
 addressed-spec =
     tie.close
     (tie.spec
-    more-requires
+    (λ c κs. search needs)
     returns
-    number-requires
-    cast-length
-    fits-requires
+    (λ c κs. search needs)
+    (λ c. search needs)
+    (λ c κs. search needs)
     addresses-requires
-    refused-requires
+    (λ c κs. search needs)
     returns-2
     returns-3)

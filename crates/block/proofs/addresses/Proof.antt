@@ -13,7 +13,7 @@ use Rattle.tlv.specs.Region.{judge}
 use Rattle.record.specs.declared.Kind.{Kind}
 use Rattle.record.specs.Kinds.{blockLength}
 use Rattle.header.specs.BlockFields.{addresses, block-small}
-use Rattle.answer.specs.StageLaws.{answers-as, said}
+use Rattle.answer.specs.StageLaws.{sees-as, said}
 use Rattle.block.specs.Takes.{bytes-of, short-at}
 use Rattle.block.specs.Leaves.{fits-over}
 use Rattle.block.specs.Addresses.{Reached, addresses-short, tlvs-more, tlvs-refused, tlvs-accepted, tlvs-inside}
@@ -28,7 +28,7 @@ module _ (c : tie.After-shared-slice-known) where
   kind = c .before .args .kind
 
   abbrev size : ℕ
-  size = c .before .args .length
+  size = c .before .args .size
 
   all : AllBytes text
   all = bytes-of text (c .shared-slice-known .given)
@@ -59,14 +59,8 @@ module _ (c : tie.After-region) where
   inside : (x : Scan) → c .region .result ≡ x → 16 + block + reach (told 9 x) ≤ length (text start)
   inside x e = tlvs-inside here (told 9 x) (found x e)
 
-block-length-requires : tie.Need-block-length-requires
-block-length-requires c κs = search needs
-
 add-at : tie.Need-add-at
 add-at c = omega (arith, block-small (kind (c .before)))
-
-more-requires : tie.Need-more-requires
-more-requires c κs = search needs
 
 returns : tie.Need-returns
 returns c =
@@ -74,49 +68,19 @@ returns c =
     let few : length (text ran) - 16 < blockLength (kind ran) =
     omega (arith, ran .before .pre .0, c .before .before .block-length .ensures, c .before .if1 .taken)
     in
-    answers-as (c .more .ensures (text ran))
+    sees-as (c .more .ensures (text ran))
     (short-at (addresses (kind ran) (size ran) .verdict) (blockLength (kind ran)) (addresses-short (kind ran) (size ran)) (text ran) (all ran) 16 few)
-
-sub-region : tie.Need-sub-region
-sub-region c = search needs
-
-part-region-start : tie.Need-part-region-start
-part-region-start c = search needs
-
-part-region-end : tie.Need-part-region-end
-part-region-end c = search needs
 
 sub-region-2 : tie.Need-sub-region-2
 sub-region-2 c =
     let ran = c .before .before .before in
     omega (arith, fits-over (blockLength (kind ran)) (size ran) (ran .before .pre .1), c .before .before .block-length .ensures)
 
-region-requires : tie.Need-region-requires
-region-requires c κs = search needs
-
-enum-told : tie.Need-enum-told
-enum-told c = search needs
-
-more-requires-2 : tie.Need-more-requires-2
-more-requires-2 c κs = search needs
-
-enum-known-place : tie.Need-enum-known-place
-enum-known-place c = search needs
-
 add-refused : tie.Need-add-refused
 add-refused c = omega (arith, inside (c .before .before .before) _ (c .before .place .given .1))
 
-refused-requires : tie.Need-refused-requires
-refused-requires c κs = search needs
-
-enum-known-n : tie.Need-enum-known-n
-enum-known-n c = search needs
-
 add-accepted : tie.Need-add-accepted
 add-accepted c = omega (arith, inside (c .before .before .before) _ (c .before .n .given .1))
-
-accepted-requires : tie.Need-accepted-requires
-accepted-requires c κs = search needs
 
 returns-2 : tie.Need-returns-2
 returns-2 c =
@@ -137,23 +101,23 @@ pub addresses-spec : {M : Type 1} → statement M
 addresses-spec =
     tie.close
     (tie.spec
-    block-length-requires
+    (λ c κs. search needs)
     add-at
-    more-requires
+    (λ c κs. search needs)
     returns
-    sub-region
-    part-region-start
-    part-region-end
+    (λ c. search needs)
+    (λ c. search needs)
+    (λ c. search needs)
     sub-region-2
-    region-requires
-    enum-told
-    more-requires-2
-    enum-known-place
+    (λ c κs. search needs)
+    (λ c. search needs)
+    (λ c κs. search needs)
+    (λ c. search needs)
     add-refused
-    refused-requires
-    enum-known-n
+    (λ c κs. search needs)
+    (λ c. search needs)
     add-accepted
-    accepted-requires
+    (λ c κs. search needs)
     returns-2
     returns-3
     returns-4)

@@ -11,7 +11,7 @@ use Rattle.exact.specs.Told.{told}
 use Rattle.exact.specs.declared.Scan.{Scan}
 use Rattle.header.specs.Header.{Header}
 use Rattle.header.specs.BlockFields.{signatureField, command, commandRest}
-use Rattle.answer.specs.StageLaws.{answers-as, first-more, first-refused, first-accepted}
+use Rattle.answer.specs.StageLaws.{sees-as, first-more, first-refused, first-accepted}
 use Rattle.block.proofs.block.Statement.{statement}
 use Rattle.block.proofs.block.Tie as tie
 
@@ -33,30 +33,6 @@ module _ (c : tie.After-literal) where
   found : (x : Scan) → c .literal .result ≡ x → told 1 x ≡ signatureField .verdict text
   found x e = ap (told 1) (sym e) ∙ c .literal .ensures 1
 
-slice-aggregate-literal : tie.Need-slice-aggregate-literal
-slice-aggregate-literal c = search needs
-
-literal-requires : tie.Need-literal-requires
-literal-requires c κs = search needs
-
-enum-told : tie.Need-enum-told
-enum-told c = search needs
-
-more-requires : tie.Need-more-requires
-more-requires c κs = search needs
-
-enum-known-place : tie.Need-enum-known-place
-enum-known-place c = search needs
-
-refused-requires : tie.Need-refused-requires
-refused-requires c κs = search needs
-
-enum-told-2 : tie.Need-enum-told-2
-enum-told-2 c = search needs
-
-command-requires : tie.Need-command-requires
-command-requires c κs = search needs
-
 returns : tie.Need-returns
 returns c =
     let ran = c .before .before .before in
@@ -72,20 +48,20 @@ returns-3 c =
     let ran = c .before .before .before in
     let whole = found ran _ (c .before .enum-told2 .given .1) in
     first-accepted signatureField rest (text ran) _ _ whole
-    (answers-as (c .command .ensures) (ap (λ (n : ℕ). shift n (rest 0 .verdict (drop n (text ran)))) (sym (twelve (text ran) _ _ whole))))
+    (sees-as (c .command .ensures) (ap (λ (n : ℕ). shift n (rest 0 .verdict (drop n (text ran)))) (sym (twelve (text ran) _ _ whole))))
 
 pub block-spec : {M : Type 1} → statement M
 block-spec =
     tie.close
     (tie.spec
-    slice-aggregate-literal
-    literal-requires
-    enum-told
-    more-requires
-    enum-known-place
-    refused-requires
-    enum-told-2
-    command-requires
+    (λ c. search needs)
+    (λ c κs. search needs)
+    (λ c. search needs)
+    (λ c κs. search needs)
+    (λ c. search needs)
+    (λ c κs. search needs)
+    (λ c. search needs)
+    (λ c κs. search needs)
     returns
     returns-2
     returns-3)

@@ -13,7 +13,7 @@ use Rattle.exact.specs.Parser.{_then_}
 use Rattle.record.specs.declared.Kind.the-variants.{Local}
 use Rattle.record.specs.Records.{bare}
 use Rattle.header.specs.BlockFields.{local, proxy, commandOf, command, commandRest, anyByte, skipped}
-use Rattle.answer.specs.StageLaws.{answers-as, as-refused, as-accepted}
+use Rattle.answer.specs.StageLaws.{sees-as, as-refused, as-accepted}
 use Rattle.block.specs.Takes.{bytes-of, bytes-drop, next-short, short-at, pass-at}
 use Rattle.block.specs.Leaves.{byte-short, byte-full, takes-byte}
 use Rattle.block.specs.Skipped.{skipped-wants}
@@ -43,28 +43,13 @@ module _ (c : tie.After-shared-slice-known2) where
   byte : getD rest 0 0 ≡ getD (text start) 12 0
   byte = getD-drop 12 (text start) 0 0
 
-more-requires : tie.Need-more-requires
-more-requires c κs = search needs
-
 returns : tie.Need-returns
 returns c =
     let ran = c .before .before in
-    answers-as (c .more .ensures (text ran))
+    sees-as (c .more .ensures (text ran))
     (short-at ((command then commandRest) .verdict) 1
     (next-short (command .verdict) (λ x. commandRest x .verdict) 1 (byte-short commandOf 6)) (text ran) (all ran) 12
     (let h = c .before .if1 .taken in omega arith))
-
-shared-slice-read-match : tie.Need-shared-slice-read-match
-shared-slice-read-match c = search needs
-
-skipped-requires : tie.Need-skipped-requires
-skipped-requires c κs = search needs
-
-proxy-requires : tie.Need-proxy-requires
-proxy-requires c κs = search needs
-
-refused-requires : tie.Need-refused-requires
-refused-requires c κs = search needs
 
 returns-2 : tie.Need-returns-2
 returns-2 c =
@@ -72,7 +57,7 @@ returns-2 c =
     let s = text (start ran) in
     as-accepted command commandRest s 12 local 1
     (sym (byte-full commandOf 6 (some local) (rest ran) (bytes ran) (here ran) (ap commandOf (byte ran ∙ c .before .match .keys1))))
-    (answers-as (c .skipped .ensures)
+    (sees-as (c .skipped .ensures)
     (sym
     (pass-at (anyByte .verdict) (λ x. skipped (bare Local) .verdict) 1 (λ t. getD t 0 0) (takes-byte 7) s (all (start ran)) 13
     (λ x. skipped-wants (bare Local)))))
@@ -100,12 +85,12 @@ pub command-spec : {M : Type 1} → statement M
 command-spec =
     tie.close
     (tie.spec
-    more-requires
+    (λ c κs. search needs)
     returns
-    shared-slice-read-match
-    skipped-requires
-    proxy-requires
-    refused-requires
+    (λ c. search needs)
+    (λ c κs. search needs)
+    (λ c κs. search needs)
+    (λ c κs. search needs)
     returns-2
     returns-3
     returns-4)

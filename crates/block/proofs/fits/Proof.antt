@@ -11,11 +11,8 @@ use Rattle.block.proofs.fits.Tie as tie
 
 module _ (c : tie.After-block-length) where
   -- the rule by the length at hand is the kind's
-  of-kind : fits (c .block-length .result) (c .before .args .length) ≡ fits (blockLength (c .before .args .kind)) (c .before .args .length)
-  of-kind = ap (λ (a : ℕ). fits a (c .before .args .length)) (c .block-length .ensures)
-
-block-length-requires : tie.Need-block-length-requires
-block-length-requires c κs = search needs
+  of-kind : fits (c .block-length .result) (c .before .args .size) ≡ fits (blockLength (c .before .args .kind)) (c .before .args .size)
+  of-kind = ap (λ (a : ℕ). fits a (c .before .args .size)) (c .block-length .ensures)
 
 returns : tie.Need-returns
 returns c = simp (← of-kind (c .before), eq-eqb _ _ (c .if1 .taken))
@@ -27,4 +24,4 @@ returns-2 : tie.Need-returns-2
 returns-2 c = simp (← of-kind (c .before), ne-eqb _ _ (c .if1 .left))
 
 pub fits-spec : {M : Type 1} → statement M
-fits-spec = tie.close (tie.spec block-length-requires returns add-result returns-2)
+fits-spec = tie.close (tie.spec (λ c κs. search needs) returns add-result returns-2)

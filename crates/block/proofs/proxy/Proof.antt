@@ -10,7 +10,7 @@ use Rattle.exact.specs.Claim.{AllBytes}
 use Rattle.exact.specs.Parser.{_then_}
 use Rattle.record.specs.Kinds.{family}
 use Rattle.header.specs.BlockFields.{familyField, familyRest}
-use Rattle.answer.specs.StageLaws.{answers-as, as-refused, as-accepted}
+use Rattle.answer.specs.StageLaws.{sees-as, as-refused, as-accepted}
 use Rattle.record.specs.declared.Family.{Family}
 use Rattle.record.specs.Told.{toldFamily}
 use Rattle.block.specs.Takes.{bytes-of, bytes-drop, next-short, short-at}
@@ -38,34 +38,13 @@ module _ (c : tie.After-family-of) where
   found : (x : Family) → c .family-of .result ≡ x → family (getD rest 0 0) ≡ toldFamily x
   found x e = ap family (getD-drop 13 (text start) 0 0) ∙ sym (c .family-of .ensures) ∙ ap toldFamily e
 
-more-requires : tie.Need-more-requires
-more-requires c κs = search needs
-
 returns : tie.Need-returns
 returns c =
     let ran = c .before .before in
-    answers-as (c .more .ensures (text ran))
+    sees-as (c .more .ensures (text ran))
     (short-at ((familyField then familyRest) .verdict) 1
     (next-short (familyField .verdict) (λ k. familyRest k .verdict) 1 (byte-short family 7)) (text ran) (all ran) 13
     (let h = c .before .if1 .taken in omega arith))
-
-shared-slice-read-family-of : tie.Need-shared-slice-read-family-of
-shared-slice-read-family-of c = search needs
-
-family-of-requires : tie.Need-family-of-requires
-family-of-requires c κs = search needs
-
-enum-known-kind : tie.Need-enum-known-kind
-enum-known-kind c = search needs
-
-family-rest-requires : tie.Need-family-rest-requires
-family-rest-requires c κs = search needs
-
-enum-told : tie.Need-enum-told
-enum-told c = search needs
-
-refused-requires : tie.Need-refused-requires
-refused-requires c κs = search needs
 
 returns-2 : tie.Need-returns-2
 returns-2 c =
@@ -87,13 +66,13 @@ pub proxy-spec : {M : Type 1} → statement M
 proxy-spec =
     tie.close
     (tie.spec
-    more-requires
+    (λ c κs. search needs)
     returns
-    shared-slice-read-family-of
-    family-of-requires
-    enum-known-kind
-    family-rest-requires
-    enum-told
-    refused-requires
+    (λ c. search needs)
+    (λ c κs. search needs)
+    (λ c. search needs)
+    (λ c κs. search needs)
+    (λ c. search needs)
+    (λ c κs. search needs)
     returns-2
     returns-3)

@@ -11,7 +11,7 @@ use Rattle.record.specs.declared.Kind.{Kind}
 use Rattle.record.specs.Records.{bare}
 use Rattle.record.specs.AddressBlock.{blockRecord}
 use Rattle.header.specs.BlockFields.{blocked}
-use Rattle.answer.specs.StageLaws.{answers-as}
+use Rattle.answer.specs.StageLaws.{sees-as}
 use Rattle.block.specs.Parts.{numberAt}
 use Rattle.block.specs.Takes.{bytes-of}
 use Rattle.block.specs.KindLaws.{bare-kind}
@@ -30,34 +30,16 @@ module _ (c : tie.After-shared-slice-known) where
   all : AllBytes text
   all = bytes-of text (c .shared-slice-known .given)
 
-more-requires : tie.Need-more-requires
-more-requires c κs = search needs
-
 returns : tie.Need-returns
 returns c =
     let ran = c .before .before in
-    answers-as (c .more .ensures (text ran)) (skipped-head (bare (kind ran)) (text ran) (all ran) (c .before .if1 .taken))
-
-number-requires : tie.Need-number-requires
-number-requires c κs = search needs
-
-cast-end : tie.Need-cast-end
-cast-end c = search needs
-
-add-end : tie.Need-add-end
-add-end c = search needs
-
-more-requires-2 : tie.Need-more-requires-2
-more-requires-2 c κs = search needs
+    sees-as (c .more .ensures (text ran)) (skipped-head (bare (kind ran)) (text ran) (all ran) (c .before .if1 .taken))
 
 returns-2 : tie.Need-returns-2
 returns-2 c =
     let ran = c .before .before .before .before in
     let few : length (text ran) < 16 + numberAt (drop 14 (text ran)) = let size = c .before .before .number .ensures in omega arith in
-    answers-as (c .more2 .ensures (text ran)) (skipped-short (bare (kind ran)) (text ran) (all ran) (c .before .before .before .if1 .left) few)
-
-accepted-requires : tie.Need-accepted-requires
-accepted-requires c κs = search needs
+    sees-as (c .more2 .ensures (text ran)) (skipped-short (bare (kind ran)) (text ran) (all ran) (c .before .before .before .if1 .left) few)
 
 returns-3 : tie.Need-returns-3
 returns-3 c =
@@ -66,7 +48,7 @@ returns-3 c =
     let end = 16 + c .before .before .number .result in
     let whole : end ≤ length (text ran) = omega arith in
     let none = bare-kind (kind ran) (ran .before .pre) in
-    answers-as
+    sees-as
     (as-block (text ran) end (blockRecord (kind ran) (drop 16 (text ran))) (bare (kind ran)) [] (none .2 _) (none .0 _) (c .accepted .ensures (text ran)))
     (ap (λ (n : ℕ). shift (16 + n) (accepted (blocked (bare (kind ran)) []) 0)) size
     ∙ skipped-whole (bare (kind ran)) (text ran) (all ran) (rw size at whole))
@@ -75,12 +57,12 @@ pub skipped-spec : {M : Type 1} → statement M
 skipped-spec =
     tie.close
     (tie.spec
-    more-requires
+    (λ c κs. search needs)
     returns
-    number-requires
-    cast-end
-    add-end
-    more-requires-2
+    (λ c κs. search needs)
+    (λ c. search needs)
+    (λ c. search needs)
+    (λ c κs. search needs)
     returns-2
-    accepted-requires
+    (λ c κs. search needs)
     returns-3)

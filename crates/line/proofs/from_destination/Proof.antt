@@ -11,7 +11,7 @@ use Rattle.exact.specs.declared.Scan.{Scan}
 use Rattle.header.specs.Header.{Header}
 use Rattle.header.specs.LineFields.{fromSourcePort}
 use Rattle.line.specs.Families.{kindOf, width, field, toldBytes}
-use Rattle.line.specs.AddressLaws.{said-found}
+use Rattle.line.specs.AddressLaws.{said-found, found-padded}
 use Rattle.answer.specs.StageLaws.{as-more, as-refused, as-accepted}
 use borrow.Author.Needs.{needs}
 use Rattle.line.proofs.from_destination.Statement.{statement}
@@ -34,43 +34,23 @@ module _ (c : tie.After-address) where
   rest = fromSourcePort (kindOf six) (take (width six) (start .args .from))
 
   found : (x : Scan) → c .address .result ≡ x → toldBytes (width six) x (c .address .last .1 .1 .0) ≡ field six .verdict (drop at text)
-  found x e = said-found six text at (c .address .last .1 .1 .0) e (c .address .ensures)
-
-sub-address : tie.Need-sub-address
-sub-address c = search needs
-
-part-address-start : tie.Need-part-address-start
-part-address-start c = search needs
-
-part-address-end : tie.Need-part-address-end
-part-address-end c = search needs
-
-address-requires : tie.Need-address-requires
-address-requires c κs = search needs
-
-enum-told : tie.Need-enum-told
-enum-told c = search needs
-
-more-requires : tie.Need-more-requires
-more-requires c κs = search needs
-
-enum-known-place : tie.Need-enum-known-place
-enum-known-place c = search needs
+  found x e = said-found six text at (c .address .last .1 .1 .0) e (c .address .ensures .0)
 
 add-refused : tie.Need-add-refused
-add-refused c = let ran = c .before .before .before in let h = stage-place (field (six ran)) (text ran) (at ran) (start ran .pre) 3 _ (found ran _ (c .before .place .given .1)) in omega arith
-
-refused-requires : tie.Need-refused-requires
-refused-requires c κs = search needs
-
-enum-known-n : tie.Need-enum-known-n
-enum-known-n c = search needs
+add-refused c = let ran = c .before .before .before in let h = stage-place (field (six ran)) (text ran) (at ran) (start ran .pre .0) 3 _ (found ran _ (c .before .place .given .1)) in omega arith
 
 add-from-source-port : tie.Need-add-from-source-port
-add-from-source-port c = let ran = c .before .before .before in let h = stage-inside (field (six ran)) (text ran) (at ran) (start ran .pre) _ _ (found ran _ (c .before .n .given .1)) in omega arith
+add-from-source-port c = let ran = c .before .before .before in let h = stage-inside (field (six ran)) (text ran) (at ran) (start ran .pre .0) _ _ (found ran _ (c .before .n .given .1)) in omega arith
 
 from-source-port-requires : tie.Need-from-source-port-requires
-from-source-port-requires c κs = let ran = c .before .before .before in stage-inside (field (six ran)) (text ran) (at ran) (start ran .pre) _ _ (found ran _ (c .before .n .given .1))
+from-source-port-requires c κs =
+    let ran = c .before .before .before in
+    let pre = start ran .pre in
+    let accepted = c .before .n .given .1 in (
+      stage-inside (field (six ran)) (text ran) (at ran) (pre .0) _ _ (found ran _ accepted),
+      pre .1,
+      found-padded (width (six ran)) _ accepted (ran .address .ensures .1),
+    )
 
 returns : tie.Need-returns
 returns c = let ran = c .before .before .before in as-more (field (six ran)) (rest ran) (text ran) (at ran) (found ran _ (c .before .enum-told .given .1)) (c .more .ensures (text ran))
@@ -85,16 +65,16 @@ pub from-destination-spec : {M : Type 1} → statement M
 from-destination-spec =
     tie.close
     (tie.spec
-    sub-address
-    part-address-start
-    part-address-end
-    address-requires
-    enum-told
-    more-requires
-    enum-known-place
+    (λ c. search needs)
+    (λ c. search needs)
+    (λ c. search needs)
+    (λ c κs. search needs)
+    (λ c. search needs)
+    (λ c κs. search needs)
+    (λ c. search needs)
     add-refused
-    refused-requires
-    enum-known-n
+    (λ c κs. search needs)
+    (λ c. search needs)
     add-from-source-port
     from-source-port-requires
     returns

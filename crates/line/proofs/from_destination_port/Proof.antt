@@ -16,7 +16,8 @@ use Rattle.record.specs.Records.{recordOf}
 use Rattle.header.specs.Header.{Header}
 use Rattle.header.specs.LineFields.{lined, lineFeed, destinationPort}
 use Rattle.line.specs.Families.{kindOf, width}
-use Rattle.answer.specs.StageLaws.{answers-as, said, as-more, as-refused, as-accepted}
+use Rattle.line.specs.AddressLaws.{own-caller}
+use Rattle.answer.specs.StageLaws.{sees-as, said, as-more, as-refused, as-accepted}
 use borrow.Author.Needs.{needs}
 use Rattle.line.proofs.from_destination_port.Statement.{statement}
 use Rattle.line.proofs.from_destination_port.Tie as tie
@@ -38,47 +39,22 @@ module _ (c : tie.After-decimal) where
   found : (x : Scan) → c .decimal .result ≡ x → told 4 x ≡ destinationPort .verdict (drop at text)
   found x e = said 4 (destinationPort .verdict) text at e (c .decimal .ensures 4)
 
-sub-decimal : tie.Need-sub-decimal
-sub-decimal c = search needs
-
-part-decimal-start : tie.Need-part-decimal-start
-part-decimal-start c = search needs
-
-part-decimal-end : tie.Need-part-decimal-end
-part-decimal-end c = search needs
-
-decimal-requires : tie.Need-decimal-requires
-decimal-requires c κs = search needs
-
-enum-told : tie.Need-enum-told
-enum-told c = search needs
-
-more-requires : tie.Need-more-requires
-more-requires c κs = search needs
-
-enum-known-place : tie.Need-enum-known-place
-enum-known-place c = search needs
-
 add-refused : tie.Need-add-refused
-add-refused c = let ran = c .before .before .before in let h = stage-place destinationPort (text ran) (at ran) (start ran .pre) 4 _ (found ran _ (c .before .place .given .1)) in omega arith
-
-refused-requires : tie.Need-refused-requires
-refused-requires c κs = search needs
-
-enum-known-q : tie.Need-enum-known-q
-enum-known-q c = search needs
-
-kind-of-requires : tie.Need-kind-of-requires
-kind-of-requires c κs = search needs
+add-refused c = let ran = c .before .before .before in let h = stage-place destinationPort (text ran) (at ran) (start ran .pre .0) 4 _ (found ran _ (c .before .place .given .1)) in omega arith
 
 cast-t20 : tie.Need-cast-t20
-cast-t20 c = let ran = c .before .before .before .before in let h = stage-member destinationPort (text ran) (at ran) (start ran .pre) _ _ (found ran _ (c .before .before .q .given .1)) .1 .whole .fits in omega arith
+cast-t20 c = let ran = c .before .before .before .before in let h = stage-member destinationPort (text ran) (at ran) (start ran .pre .0) _ _ (found ran _ (c .before .before .q .given .1)) .1 .whole .fits in omega arith
 
 add-line-feed : tie.Need-add-line-feed
-add-line-feed c = let ran = c .before .before .before .before in let h = stage-inside destinationPort (text ran) (at ran) (start ran .pre) _ _ (found ran _ (c .before .before .q .given .1)) in omega arith
+add-line-feed c = let ran = c .before .before .before .before in let h = stage-inside destinationPort (text ran) (at ran) (start ran .pre .0) _ _ (found ran _ (c .before .before .q .given .1)) in omega arith
 
 line-feed-requires : tie.Need-line-feed-requires
-line-feed-requires c κs = let ran = c .before .before .before .before in stage-inside destinationPort (text ran) (at ran) (start ran .pre) _ _ (found ran _ (c .before .before .q .given .1))
+line-feed-requires c κs =
+    let ran = c .before .before .before .before in
+    let pre = start ran .pre in (
+      stage-inside destinationPort (text ran) (at ran) (pre .0) _ _ (found ran _ (c .before .before .q .given .1)),
+      own-caller (start ran .args .six) _ _ _ _ _ (c .kind-of .ensures) (search needs) (search needs),
+    )
 
 returns : tie.Need-returns
 returns c = let ran = c .before .before .before in as-more destinationPort (rest ran) (text ran) (at ran) (found ran _ (c .before .enum-told .given .1)) (c .more .ensures (text ran))
@@ -95,24 +71,24 @@ returns-3 c =
     λ k. recordOf k (take (addressLength k) (from .from)) (take (addressLength k) (from .to)) (from .p) (c .before .before .before .q .given .0 .0)
     in
     as-accepted destinationPort (rest ran) (text ran) (at ran) _ _ (found ran _ (c .before .before .before .q .given .1))
-    (answers-as (c .line-feed .ensures)
+    (sees-as (c .line-feed .ensures)
     (ap (λ (k : Kind). shift n (lineFeed (lined (caller k)) .verdict (drop n (text ran)))) (c .before .kind-of .ensures)))
 
 pub from-destination-port-spec : {M : Type 1} → statement M
 from-destination-port-spec =
     tie.close
     (tie.spec
-    sub-decimal
-    part-decimal-start
-    part-decimal-end
-    decimal-requires
-    enum-told
-    more-requires
-    enum-known-place
+    (λ c. search needs)
+    (λ c. search needs)
+    (λ c. search needs)
+    (λ c κs. search needs)
+    (λ c. search needs)
+    (λ c κs. search needs)
+    (λ c. search needs)
     add-refused
-    refused-requires
-    enum-known-q
-    kind-of-requires
+    (λ c κs. search needs)
+    (λ c. search needs)
+    (λ c κs. search needs)
     cast-t20
     add-line-feed
     line-feed-requires

@@ -1,6 +1,6 @@
 -- The end of the line is a field, and behind it the header is said.
 use Prim.Native.Nat.{ℕ}
-use mathlib.Core.Path.{_≡_, ap}
+use mathlib.Core.Path.{_≡_, refl}
 use mathlib.Core.List.{List}
 use native.Mathlib.Omega.{arith}
 use lib.ListN.{drop}
@@ -12,8 +12,8 @@ use Rattle.header.specs.Header.{Header}
 use Rattle.record.specs.declared.Kind.the-variants.{Unspecified}
 use Rattle.record.specs.Records.{bare}
 use Rattle.header.specs.LineFields.{lined, restField}
-use Rattle.answer.specs.StageLaws.{said, as-more, as-refused, as-accepted, as-said}
-use Rattle.answer.specs.Sight.{callerRecord}
+use Rattle.answer.specs.StageLaws.{said, as-more, as-refused, as-accepted, as-line}
+use Rattle.answer.specs.Sight.{kindOnly}
 use borrow.Author.Needs.{needs}
 use Rattle.line.proofs.from_rest.Statement.{statement}
 use Rattle.line.proofs.from_rest.Tie as tie
@@ -34,41 +34,11 @@ module _ (c : tie.After-line-end) where
   found : (x : Scan) → c .line-end .result ≡ x → told 5 x ≡ restField .verdict (drop at text)
   found x e = said 5 (restField .verdict) text at e (c .line-end .ensures 5)
 
-sub-line-end : tie.Need-sub-line-end
-sub-line-end c = search needs
-
-part-line-end-start : tie.Need-part-line-end-start
-part-line-end-start c = search needs
-
-part-line-end-end : tie.Need-part-line-end-end
-part-line-end-end c = search needs
-
-line-end-requires : tie.Need-line-end-requires
-line-end-requires c κs = search needs
-
-enum-told : tie.Need-enum-told
-enum-told c = search needs
-
-more-requires : tie.Need-more-requires
-more-requires c κs = search needs
-
-enum-known-place : tie.Need-enum-known-place
-enum-known-place c = search needs
-
 add-refused : tie.Need-add-refused
 add-refused c = let ran = c .before .before .before in let h = stage-place restField (text ran) (at ran) (start ran .pre) 5 _ (found ran _ (c .before .place .given .1)) in omega arith
 
-refused-requires : tie.Need-refused-requires
-refused-requires c κs = search needs
-
-enum-known-n : tie.Need-enum-known-n
-enum-known-n c = search needs
-
 add-t13 : tie.Need-add-t13
 add-t13 c = let ran = c .before .before .before in let h = stage-inside restField (text ran) (at ran) (start ran .pre) _ _ (found ran _ (c .before .n .given .1)) in omega arith
-
-of-kind-requires : tie.Need-of-kind-requires
-of-kind-requires c κs = search needs
 
 returns : tie.Need-returns
 returns c = let ran = c .before .before .before in as-more restField (rest ran) (text ran) (at ran) (found ran _ (c .before .enum-told .given .1)) (c .more .ensures (text ran))
@@ -77,24 +47,24 @@ returns-2 : tie.Need-returns-2
 returns-2 c = let ran = c .before .before .before .before in as-refused restField (rest ran) (text ran) (at ran) 5 _ (found ran _ (c .before .before .place .given .1)) (c .refused .ensures (text ran))
 
 returns-3 : tie.Need-returns-3
-returns-3 c = let ran = c .before .before .before .before in as-accepted restField (rest ran) (text ran) (at ran) _ _ (found ran _ (c .before .before .n .given .1)) (as-said (text ran) _ (ap callerRecord (c .of-kind .ensures)))
+returns-3 c = let ran = c .before .before .before .before in as-accepted restField (rest ran) (text ran) (at ran) _ _ (found ran _ (c .before .before .n .given .1)) (as-line (text ran) _ (kindOnly Unspecified) refl (c .of-kind .ensures))
 
 pub from-rest-spec : {M : Type 1} → statement M
 from-rest-spec =
     tie.close
     (tie.spec
-    sub-line-end
-    part-line-end-start
-    part-line-end-end
-    line-end-requires
-    enum-told
-    more-requires
-    enum-known-place
+    (λ c. search needs)
+    (λ c. search needs)
+    (λ c. search needs)
+    (λ c κs. search needs)
+    (λ c. search needs)
+    (λ c κs. search needs)
+    (λ c. search needs)
     add-refused
-    refused-requires
-    enum-known-n
+    (λ c κs. search needs)
+    (λ c. search needs)
     add-t13
-    of-kind-requires
+    (λ c κs. search needs)
     returns
     returns-2
     returns-3)

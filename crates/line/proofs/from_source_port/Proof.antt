@@ -33,44 +33,20 @@ module _ (c : tie.After-decimal) where
   found : (x : Scan) → c .decimal .result ≡ x → told 4 x ≡ sourcePort .verdict (drop at text)
   found x e = said 4 (sourcePort .verdict) text at e (c .decimal .ensures 4)
 
-sub-decimal : tie.Need-sub-decimal
-sub-decimal c = search needs
-
-part-decimal-start : tie.Need-part-decimal-start
-part-decimal-start c = search needs
-
-part-decimal-end : tie.Need-part-decimal-end
-part-decimal-end c = search needs
-
-decimal-requires : tie.Need-decimal-requires
-decimal-requires c κs = search needs
-
-enum-told : tie.Need-enum-told
-enum-told c = search needs
-
-more-requires : tie.Need-more-requires
-more-requires c κs = search needs
-
-enum-known-place : tie.Need-enum-known-place
-enum-known-place c = search needs
-
 add-refused : tie.Need-add-refused
-add-refused c = let ran = c .before .before .before in let h = stage-place sourcePort (text ran) (at ran) (start ran .pre) 4 _ (found ran _ (c .before .place .given .1)) in omega arith
-
-refused-requires : tie.Need-refused-requires
-refused-requires c κs = search needs
-
-enum-known-p : tie.Need-enum-known-p
-enum-known-p c = search needs
+add-refused c = let ran = c .before .before .before in let h = stage-place sourcePort (text ran) (at ran) (start ran .pre .0) 4 _ (found ran _ (c .before .place .given .1)) in omega arith
 
 add-from-destination-port : tie.Need-add-from-destination-port
-add-from-destination-port c = let ran = c .before .before .before in let h = stage-inside sourcePort (text ran) (at ran) (start ran .pre) _ _ (found ran _ (c .before .p .given .1)) in omega arith
+add-from-destination-port c = let ran = c .before .before .before in let h = stage-inside sourcePort (text ran) (at ran) (start ran .pre .0) _ _ (found ran _ (c .before .p .given .1)) in omega arith
 
 cast-from-destination-port : tie.Need-cast-from-destination-port
-cast-from-destination-port c = let ran = c .before .before .before in let h = stage-member sourcePort (text ran) (at ran) (start ran .pre) _ _ (found ran _ (c .before .p .given .1)) .1 .whole .fits in omega arith
+cast-from-destination-port c = let ran = c .before .before .before in let h = stage-member sourcePort (text ran) (at ran) (start ran .pre .0) _ _ (found ran _ (c .before .p .given .1)) .1 .whole .fits in omega arith
 
 from-destination-port-requires : tie.Need-from-destination-port-requires
-from-destination-port-requires c κs = let ran = c .before .before .before in stage-inside sourcePort (text ran) (at ran) (start ran .pre) _ _ (found ran _ (c .before .p .given .1))
+from-destination-port-requires c κs =
+    let ran = c .before .before .before in
+    let pre = start ran .pre in
+    (stage-inside sourcePort (text ran) (at ran) (pre .0) _ _ (found ran _ (c .before .p .given .1)), pre .1, pre .2)
 
 returns : tie.Need-returns
 returns c = let ran = c .before .before .before in as-more sourcePort (rest ran) (text ran) (at ran) (found ran _ (c .before .enum-told .given .1)) (c .more .ensures (text ran))
@@ -85,16 +61,16 @@ pub from-source-port-spec : {M : Type 1} → statement M
 from-source-port-spec =
     tie.close
     (tie.spec
-    sub-decimal
-    part-decimal-start
-    part-decimal-end
-    decimal-requires
-    enum-told
-    more-requires
-    enum-known-place
+    (λ c. search needs)
+    (λ c. search needs)
+    (λ c. search needs)
+    (λ c κs. search needs)
+    (λ c. search needs)
+    (λ c κs. search needs)
+    (λ c. search needs)
     add-refused
-    refused-requires
-    enum-known-p
+    (λ c κs. search needs)
+    (λ c. search needs)
     add-from-destination-port
     cast-from-destination-port
     from-destination-port-requires

@@ -1,66 +1,45 @@
 -- The byte behind "UNKNOWN" tells how the line ends.
 use Prim.Native.Nat.{_+_}
-use mathlib.Core.Path.{ap}
+use mathlib.Core.Path.{_≡_, refl, sym, ap, subst}
 use lib.ListN.{drop}
 use Rattle.exact.specs.Field.{shift}
 use Rattle.header.specs.LineFields.{lined, lineFeed}
-use Rattle.answer.specs.StageLaws.{answers-as}
+use Rattle.answer.specs.StageLaws.{sees-as}
 use Rattle.line.specs.Choices.{choice-none, end-cr, end-space, end-other}
 use Rattle.answer.specs.declared.Caller.{Caller}
-use Rattle.answer.specs.Sight.{callerRecord}
+use Rattle.answer.specs.Sight.{callerRecord, callerOf}
 use borrow.Author.Needs.{needs}
 use Rattle.line.proofs.from_unknown_end.Statement.{statement}
 use Rattle.line.proofs.from_unknown_end.Tie as tie
 
-more-requires : tie.Need-more-requires
-more-requires c κs = search needs
-
 returns : tie.Need-returns
-returns c = let start = c .before .before .before in answers-as (c .more .ensures (start .args .s .now)) (choice-none (start .args .s .now) (start .args .at) _ _ _ (c .before .if1 .taken))
-
-shared-slice-read-c : tie.Need-shared-slice-read-c
-shared-slice-read-c c = search needs
-
-add-line-feed : tie.Need-add-line-feed
-add-line-feed c = search needs
-
-of-kind-requires : tie.Need-of-kind-requires
-of-kind-requires c κs = search needs
+returns c = let start = c .before .before .before in sees-as (c .more .ensures (start .args .s .now)) (choice-none (start .args .s .now) (start .args .at) _ _ _ (c .before .if1 .taken))
 
 line-feed-requires : tie.Need-line-feed-requires
-line-feed-requires c κs = search needs
-
-add-from-rest : tie.Need-add-from-rest
-add-from-rest c = search needs
-
-from-rest-requires : tie.Need-from-rest-requires
-from-rest-requires c κs = search needs
-
-refused-requires : tie.Need-refused-requires
-refused-requires c κs = search needs
+line-feed-requires c κs = (search needs, subst (λ (x : Caller). callerOf (callerRecord x) ≡ x) (sym (c .of-kind .ensures)) refl)
 
 returns-2 : tie.Need-returns-2
-returns-2 c = let start = c .before .before .before .before .before .before in answers-as (answers-as (c .line-feed .ensures) (ap (λ (x : Caller). shift (start .args .at + 1) (lineFeed (lined (callerRecord x)) .verdict (drop (start .args .at + 1) (start .args .s .now)))) (c .before .of-kind .ensures))) (end-cr (start .args .s .now) (start .args .at) (c .before .before .before .before .if1 .left) (c .before .before .if2 .taken))
+returns-2 c = let start = c .before .before .before .before .before .before in sees-as (sees-as (c .line-feed .ensures) (ap (λ (x : Caller). shift (start .args .at + 1) (lineFeed (lined (callerRecord x)) .verdict (drop (start .args .at + 1) (start .args .s .now)))) (c .before .of-kind .ensures))) (end-cr (start .args .s .now) (start .args .at) (c .before .before .before .before .if1 .left) (c .before .before .if2 .taken))
 
 returns-3 : tie.Need-returns-3
-returns-3 c = let start = c .before .before .before .before .before .before in answers-as (c .from-rest .ensures) (end-space (start .args .s .now) (start .args .at) (c .before .before .before .before .if1 .left) (c .before .if3 .taken))
+returns-3 c = let start = c .before .before .before .before .before .before in sees-as (c .from-rest .ensures) (end-space (start .args .s .now) (start .args .at) (c .before .before .before .before .if1 .left) (c .before .if3 .taken))
 
 returns-4 : tie.Need-returns-4
-returns-4 c = let start = c .before .before .before .before .before .before in answers-as (c .refused .ensures (start .args .s .now)) (end-other (start .args .s .now) (start .args .at) (c .before .before .before .before .if1 .left) (c .before .before .if2 .left) (c .before .if3 .left))
+returns-4 c = let start = c .before .before .before .before .before .before in sees-as (c .refused .ensures (start .args .s .now)) (end-other (start .args .s .now) (start .args .at) (c .before .before .before .before .if1 .left) (c .before .before .if2 .left) (c .before .if3 .left))
 
 pub from-unknown-end-spec : {M : Type 1} → statement M
 from-unknown-end-spec =
     tie.close
     (tie.spec
-    more-requires
+    (λ c κs. search needs)
     returns
-    shared-slice-read-c
-    add-line-feed
-    of-kind-requires
+    (λ c. search needs)
+    (λ c. search needs)
+    (λ c κs. search needs)
     line-feed-requires
-    add-from-rest
-    from-rest-requires
-    refused-requires
+    (λ c. search needs)
+    (λ c κs. search needs)
+    (λ c κs. search needs)
     returns-2
     returns-3
     returns-4)

@@ -1,6 +1,6 @@
 -- The LF is a literal field, and behind it the header is said.
 use Prim.Native.Nat.{ℕ}
-use mathlib.Core.Path.{_≡_}
+use mathlib.Core.Path.{_≡_, refl}
 use mathlib.Core.List.{List}
 use native.Mathlib.Omega.{arith}
 use lib.ListN.{drop}
@@ -29,41 +29,11 @@ module _ (c : tie.After-literal) where
   found : (x : Scan) → c .literal .result ≡ x → told 5 x ≡ lfField .verdict (drop at text)
   found x e = said 5 (lfField .verdict) text at e (c .literal .ensures 5)
 
-sub-literal : tie.Need-sub-literal
-sub-literal c = search needs
-
-part-literal-start : tie.Need-part-literal-start
-part-literal-start c = search needs
-
-part-literal-end : tie.Need-part-literal-end
-part-literal-end c = search needs
-
-slice-aggregate-literal : tie.Need-slice-aggregate-literal
-slice-aggregate-literal c = search needs
-
-literal-requires : tie.Need-literal-requires
-literal-requires c κs = search needs
-
-enum-told : tie.Need-enum-told
-enum-told c = search needs
-
-more-requires : tie.Need-more-requires
-more-requires c κs = search needs
-
-enum-known-place : tie.Need-enum-known-place
-enum-known-place c = search needs
-
 add-refused : tie.Need-add-refused
-add-refused c = let ran = c .before .before .before in let h = stage-place lfField (text ran) (at ran) (ran .before .before .before .before .pre) 5 _ (found ran _ (c .before .place .given .1)) in omega arith
-
-refused-requires : tie.Need-refused-requires
-refused-requires c κs = search needs
-
-enum-known-n : tie.Need-enum-known-n
-enum-known-n c = search needs
+add-refused c = let ran = c .before .before .before in let h = stage-place lfField (text ran) (at ran) (ran .before .before .before .before .pre .0) 5 _ (found ran _ (c .before .place .given .1)) in omega arith
 
 add-t17 : tie.Need-add-t17
-add-t17 c = let ran = c .before .before .before in let h = stage-inside lfField (text ran) (at ran) (ran .before .before .before .before .pre) _ _ (found ran _ (c .before .n .given .1)) in omega arith
+add-t17 c = let ran = c .before .before .before in let h = stage-inside lfField (text ran) (at ran) (ran .before .before .before .before .pre .0) _ _ (found ran _ (c .before .n .given .1)) in omega arith
 
 returns : tie.Need-returns
 returns c = let ran = c .before .before .before in as-more lfField (says ran) (text ran) (at ran) (found ran _ (c .before .enum-told .given .1)) (c .more .ensures (text ran))
@@ -72,23 +42,23 @@ returns-2 : tie.Need-returns-2
 returns-2 c = let ran = c .before .before .before .before in as-refused lfField (says ran) (text ran) (at ran) 5 _ (found ran _ (c .before .before .place .given .1)) (c .refused .ensures (text ran))
 
 returns-3 : tie.Need-returns-3
-returns-3 c = let ran = c .before .before .before in as-accepted lfField (says ran) (text ran) (at ran) _ _ (found ran _ (c .before .n .given .1)) (as-line (text ran) _ _)
+returns-3 c = let ran = c .before .before .before in as-accepted lfField (says ran) (text ran) (at ran) _ _ (found ran _ (c .before .n .given .1)) (as-line (text ran) _ _ (ran .before .before .before .before .pre .1) refl)
 
 pub line-feed-spec : {M : Type 1} → statement M
 line-feed-spec =
     tie.close
     (tie.spec
-    sub-literal
-    part-literal-start
-    part-literal-end
-    slice-aggregate-literal
-    literal-requires
-    enum-told
-    more-requires
-    enum-known-place
+    (λ c. search needs)
+    (λ c. search needs)
+    (λ c. search needs)
+    (λ c. search needs)
+    (λ c κs. search needs)
+    (λ c. search needs)
+    (λ c κs. search needs)
+    (λ c. search needs)
     add-refused
-    refused-requires
-    enum-known-n
+    (λ c κs. search needs)
+    (λ c. search needs)
     add-t17
     returns
     returns-2

@@ -6,18 +6,12 @@ use borrow.Author.Needs.{needs}
 use Rattle.reader.proofs.read.Statement.{statement}
 use Rattle.reader.proofs.read.Tie as tie
 
-scan-requires : tie.Need-scan-requires
-scan-requires c κs = search needs
-
-record-of-requires : tie.Need-record-of-requires
-record-of-requires c κs = search needs
-
 returns : tie.Need-returns
 returns c =
     let seen = c .before in
     let x = seen .before .before .args in
     subst (λ (r : Record). Reads (x .s .now) (record { verdict = seen .scan .result .verdict; «record» = r })) (sym (c .record-of .ensures))
-    (seen .scan .ensures)
+    (seen .scan .ensures .0)
 
 pub read-spec : {M : Type 1} → statement M
-read-spec = tie.close (tie.spec scan-requires record-of-requires returns)
+read-spec = tie.close (tie.spec (λ c κs. search needs) (λ c κs. search needs) returns)

@@ -18,24 +18,6 @@ returns-2 c =
     untouched (verdict (now (x .bytes))) (now (x .numbers)) (now (x .connection))
     (short-connection (now (x .numbers)) (now (x .connection)) (omega arith) (omega arith))
 
-scan-requires : tie.Need-scan-requires
-scan-requires c κs = search needs
-
-tell-requires : tie.Need-tell-requires
-tell-requires c κs = search needs
-
-put-seen-requires : tie.Need-put-seen-requires
-put-seen-requires c κs = search needs
-
-put-numbers-requires : tie.Need-put-numbers-requires
-put-numbers-requires c κs = search needs
-
-same-length : tie.Need-same-length
-same-length c = search needs
-
-same-length-2 : tie.Need-same-length-2
-same-length-2 c = search needs
-
 returns-3 : tie.Need-returns-3
 returns-3 c =
     let put = c .before .before in
@@ -44,7 +26,7 @@ returns-3 c =
     let seen = told .before .before in
     let x = seen .before .before .before .before .before .before .args in
     written (verdict (now (x .bytes))) (now (x .numbers)) (now (x .connection)) (seen .scan .result) (told .tell .result) (now (x .bytes)) _ _
-    (omega arith) (omega arith) (seen .scan .ensures .answers) (told .tell .ensures) (put .put-numbers .ensures) (connected .put-seen .ensures)
+    (omega arith) (omega arith) (seen .scan .ensures .0 .answers) (told .tell .ensures) (put .put-numbers .ensures) (connected .put-seen .ensures)
 
 pub dawnhawse-read-spec : {M : Type 1} → statement M
 dawnhawse-read-spec =
@@ -52,10 +34,10 @@ dawnhawse-read-spec =
     (tie.spec
     returns
     returns-2
-    scan-requires
-    tell-requires
-    put-seen-requires
-    put-numbers-requires
-    same-length
-    same-length-2
+    (λ c κs. search needs)
+    (λ c κs. search needs)
+    (λ c κs. search needs)
+    (λ c κs. search needs)
+    (λ c. search needs)
+    (λ c. search needs)
     returns-3)

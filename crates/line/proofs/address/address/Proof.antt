@@ -2,12 +2,6 @@ use borrow.Author.Needs.{needs}
 use Rattle.line.proofs.address.address.Statement.{statement}
 use Rattle.line.proofs.address.address.Tie as tie
 
-address6-requires : tie.Need-address6-requires
-address6-requires c κs = search needs
-
-address4-requires : tie.Need-address4-requires
-address4-requires c κs = search needs
-
 returns : tie.Need-returns
 returns c = rw (c .before .before .if1 .taken) (c .address6 .ensures)
 
@@ -15,4 +9,4 @@ returns-2 : tie.Need-returns-2
 returns-2 c = rw (c .before .before .if1 .left) (c .address4 .ensures)
 
 pub address-spec : {M : Type 1} → statement M
-address-spec = tie.close (tie.spec address6-requires address4-requires returns returns-2)
+address-spec = tie.close (tie.spec (λ c κs. search needs) (λ c κs. search needs) returns returns-2)

@@ -1,18 +1,16 @@
-use Rattle.line.specs.AddressLaws.{told6}
+-- The bytes of the groups fill what is stored.
+use Rattle.line.specs.AddressLaws.{told6, unused6}
 use borrow.Author.Needs.{needs}
 use Rattle.line.proofs.address.address6.Statement.{statement}
 use Rattle.line.proofs.address.address6.Tie as tie
 
-address-requires : tie.Need-address-requires
-address-requires c κs = search needs
-
-group-bytes-requires : tie.Need-group-bytes-requires
-group-bytes-requires c κs = search needs
-
 returns : tie.Need-returns
 returns c =
+    let found = c .before .before .address in
+    let x = found .result in
+    let s = c .before .before .before .before .args .s .now in
     rw (c .group-bytes .ensures)
-    (told6 (c .before .before .address .result .scan) (c .before .before .address .result .groups) (c .before .before .before .before .args .s .now) (c .before .before .address .ensures .0 3))
+    (told6 (x .scan) (x .groups) s (found .ensures .0 3), unused6 (x .scan) (x .groups) s (found .ensures .0 3) (found .ensures .1))
 
 pub address6-spec : {M : Type 1} → statement M
-address6-spec = tie.close (tie.spec address-requires group-bytes-requires returns)
+address6-spec = tie.close (tie.spec (λ c κs. search needs) (λ c κs. search needs) returns)
