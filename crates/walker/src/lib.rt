@@ -1,10 +1,9 @@
 // A walker over a TLV area: it holds the lent area itself and its place in it. The work is in functions on the slice and
 // the place; the functions over the walker are thin. No public function has a `requires`.
 ghost use mathlib.Core.Path.{_≡_};
-ghost use Prim.Native.Nat.{_+_, _≤_};
-ghost use lib.ListN.{length, drop};
+ghost use lib.ListN.{drop};
 ghost use Rattle.tlv.specs.Tlv.{WellFormed};
-ghost use Rattle.walker.specs.Step.{headAt, stepAt, numberOf, startOf, lengthOf, valueOf, placeAfter};
+ghost use Rattle.walker.specs.Step.{toldStep, headAt, stepAt, ValuePart, placeAfter, within};
 
 // What a step shows: a TLV's type, where its value starts in the area and its length; or the end; or the refusal, 12.
 pub enum Shown {
@@ -19,7 +18,8 @@ pub enum Shown {
 
 // What stands at a place, with no look at what lies behind that TLV: for a caller who knows that the area is well-formed.
 pub fn head_at(area: &[u8], at: usize) -> Shown
-    ensures { λ r. ⌜ (r ≡ headAt (now (area .entry)) at) × (WellFormed (drop at (now (area .entry))) → r ≡ stepAt (now (area .entry)) at) ⌝ }
+    ensures { λ r. ⌜ (toldStep r ≡ headAt (now (area .entry)) at)
+        × (WellFormed (drop at (now (area .entry))) → toldStep r ≡ stepAt (now (area .entry)) at) ⌝ }
 {
     if area.len() <= at {
         if area.len() < at {
@@ -35,9 +35,11 @@ pub fn head_at(area: &[u8], at: usize) -> Shown
             if area.len() - at - 3 < length {
                 Shown::Refused
             } else {
+                let tlv_type = area[at];
+                let start = at + 3;
                 Shown::Tlv {
-                    tlv_type: area[at],
-                    start: at + 3,
+                    tlv_type,
+                    start,
                     length,
                 }
             }
@@ -47,7 +49,7 @@ pub fn head_at(area: &[u8], at: usize) -> Shown
 
 // What stands at a place, if what remains from it is well-formed: each step looks at all of it.
 pub fn step_at(area: &[u8], at: usize) -> Shown
-    ensures { λ r. ⌜ r ≡ stepAt (now (area .entry)) at ⌝ }
+    ensures { λ r. ⌜ toldStep r ≡ stepAt (now (area .entry)) at ⌝ }
 {
     if area.len() < at {
         Shown::Refused
@@ -60,57 +62,9 @@ pub fn step_at(area: &[u8], at: usize) -> Shown
     }
 }
 
-// The value at a place as the very part of the area; where no TLV is shown, the empty part at 0.
-pub fn value_at(area: &[u8], at: usize) -> &[u8]
-    ensures { λ r. ⌜ (r .ptr .0 ≡ area .entry .ptr .0)
-        × (r .ptr .1 ≡ area .entry .ptr .1 + startOf (stepAt (now (area .entry)) at))
-        × (now r ≡ valueOf (now (area .entry)) (stepAt (now (area .entry)) at)) ⌝ }
-{
-    match step_at(area, at) {
-        Shown::Tlv {
-            tlv_type: _,
-            start,
-            length,
-        } => &area[start..start + length],
-        Shown::End => &area[0..0],
-        Shown::Refused => &area[0..0],
-    }
-}
-
-// The place just past a shown TLV; at the end, and where the step is refused, the same place.
-pub fn next_at(area: &[u8], at: usize) -> usize
-    ensures { λ r. ⌜ r ≡ placeAfter at (stepAt (now (area .entry)) at) ⌝ }
-{
-    match step_at(area, at) {
-        Shown::Tlv {
-            tlv_type: _,
-            start,
-            length,
-        } => start + length,
-        Shown::End => at,
-        Shown::Refused => at,
-    }
-}
-
-// Document 01's number of what a step shows: 12 where it is refused, else 0.
-pub fn number(shown: Shown) -> u8
-    ensures { λ r. ⌜ r ≡ numberOf shown ⌝ }
-{
-    match shown {
-        Shown::Tlv {
-            tlv_type: _,
-            start: _,
-            length: _,
-        } => 0,
-        Shown::End => 0,
-        Shown::Refused => 12,
-    }
-}
-
-// The value of what a step has shown, with no second look at what remains.
+// The value of what a step has shown, with no second look at what remains. Where that doesn't lie in the area, the empty part at 0.
 fn value_of(area: &[u8], shown: Shown) -> &[u8]
-    ensures { λ r. ⌜ (startOf shown + lengthOf shown ≤ length (now (area .entry))
-        → ((r .ptr .0 ≡ area .entry .ptr .0) × (r .ptr .1 ≡ area .entry .ptr .1 + startOf shown) × (now r ≡ valueOf (now (area .entry)) shown))) ⌝ }
+    ensures { λ r. ⌜ ValuePart (area .entry) (within (now (area .entry)) (toldStep shown)) r ⌝ }
 {
     match shown {
         Shown::Tlv {
@@ -133,9 +87,9 @@ fn value_of(area: &[u8], shown: Shown) -> &[u8]
     }
 }
 
-// The place after what a step has shown at a place.
+// The place after what a step has shown at a place. Where that doesn't lie in the area, the same place.
 fn place_of(area: &[u8], at: usize, shown: Shown) -> usize
-    ensures { λ r. ⌜ (startOf shown + lengthOf shown ≤ length (now (area .entry)) → r ≡ placeAfter at shown) ⌝ }
+    ensures { λ r. ⌜ r ≡ placeAfter at (within (now (area .entry)) (toldStep shown)) ⌝ }
 {
     match shown {
         Shown::Tlv {
@@ -180,11 +134,9 @@ pub fn new<'a>(area: &'a [u8]) -> Walker<'a>
 
 // One step: what is shown at the walker's place, and where the walker stands after it.
 pub fn step<'a>(w: Walker<'a>) -> Stepped<'a>
-    ensures { λ r. ⌜ (r .shown ≡ stepAt (now (w .entry .area)) (w .entry .at))
-        × (r .value .ptr .0 ≡ w .entry .area .ptr .0)
-        × (r .value .ptr .1 ≡ w .entry .area .ptr .1 + startOf (r .shown))
-        × (now (r .value) ≡ valueOf (now (w .entry .area)) (r .shown))
-        × (r .at ≡ placeAfter (w .entry .at) (r .shown)) ⌝ }
+    ensures { λ r. ⌜ (toldStep (r .shown) ≡ stepAt (now (w .entry .area)) (w .entry .at))
+        × ValuePart (w .entry .area) (toldStep (r .shown)) (r .value)
+        × (r .at ≡ placeAfter (w .entry .at) (toldStep (r .shown))) ⌝ }
 {
     let shown = step_at(w.area, w.at);
     let value = value_of(w.area, shown);
@@ -193,34 +145,30 @@ pub fn step<'a>(w: Walker<'a>) -> Stepped<'a>
 }
 
 // What a lent walker's step shows, and the value as the very part of the lent bytes.
-pub struct Seen<'a> {
+pub struct Showing<'a> {
     pub shown: Shown,
     pub value: &'a [u8],
 }
 
 // One step of a walker that is lent by `&mut`: it moves just past a shown TLV, and else stays where it was.
-pub fn advance<'s, 'a>(w: &'s mut Walker<'a>) -> Seen<'a>
-    ensures { λ r. ⌜ (r .shown ≡ stepAt (now (now (w .entry) .area)) (now (w .entry) .at))
-        × (r .value .ptr .0 ≡ now (w .entry) .area .ptr .0)
-        × (r .value .ptr .1 ≡ now (w .entry) .area .ptr .1 + startOf (r .shown))
-        × (now (r .value) ≡ valueOf (now (now (w .entry) .area)) (r .shown))
+pub fn advance<'s, 'a>(w: &'s mut Walker<'a>) -> Showing<'a>
+    ensures { λ r. ⌜ (toldStep (r .shown) ≡ stepAt (now (now (w .entry) .area)) (now (w .entry) .at))
+        × ValuePart (now (w .entry) .area) (toldStep (r .shown)) (r .value)
         × (now (w .exit) .area ≡ now (w .entry) .area)
-        × (now (w .exit) .at ≡ placeAfter (now (w .entry) .at) (r .shown)) ⌝ }
+        × (now (w .exit) .at ≡ placeAfter (now (w .entry) .at) (toldStep (r .shown))) ⌝ }
 {
     let v = *w;
     let shown = step_at(v.area, v.at);
     let value = value_of(v.area, shown);
     let at = place_of(v.area, v.at, shown);
     *w = Walker { area: v.area, at };
-    Seen { shown, value }
+    Showing { shown, value }
 }
 
-// The first TLV's value as the very part of the area: a caller with plain parameters, whose own callers need no walk.
-pub fn first_value<'a>(area: &'a [u8]) -> &'a [u8]
-    ensures { λ r. ⌜ (r .ptr .0 ≡ area .entry .ptr .0)
-        × (r .ptr .1 ≡ area .entry .ptr .1 + startOf (stepAt (now (area .entry)) 0))
-        × (now r ≡ valueOf (now (area .entry)) (stepAt (now (area .entry)) 0)) ⌝ }
+// What a walker at a place of an area shows: a function with plain parameters, whose own callers need no walk.
+pub fn shown_at(area: &[u8], at: usize) -> Shown
+    ensures { λ r. ⌜ toldStep r ≡ stepAt (now (area .entry)) at ⌝ }
 {
-    let r = step(new(area));
-    r.value
+    let r = step(Walker { area, at });
+    r.shown
 }

@@ -4,8 +4,7 @@ use mathlib.Core.Path.{_≡_, sym, _∙_}
 use mathlib.Core.List.{List}
 use lib.ListN.{drop}
 use Rattle.tlv.specs.Tlv.{WellFormed}
-use Rattle.walker.specs.Step.{headAt, stepAt}
-use Rattle.walker.specs.declared.Shown.{Shown}
+use Rattle.walker.specs.Step.{Step, headAt, stepAt}
 use native.Mathlib.Omega.{arith}
 use borrow.Author.Needs.{needs}
 use denote.Ref.{now}
@@ -15,29 +14,14 @@ use Rattle.walker.proofs.head_at.Statement.{statement}
 use Rattle.walker.proofs.head_at.Tie as tie
 
 -- where what remains is well-formed, that is the step
-step-too : (s : List ℕ) (at : ℕ) (r : Shown) → headAt s at ≡ r → (r ≡ headAt s at) × (WellFormed (drop at s) → r ≡ stepAt s at)
+step-too : (s : List ℕ) (at : ℕ) (r : Step) → headAt s at ≡ r → (r ≡ headAt s at) × (WellFormed (drop at s) → r ≡ stepAt s at)
 step-too s at r e = (sym e, λ w. sym (step-head s at w ∙ e))
-
-sub-if3 : tie.Need-sub-if3
-sub-if3 c = search needs
-
-add-length : tie.Need-add-length
-add-length c = search needs
-
-shared-slice-read-length : tie.Need-shared-slice-read-length
-shared-slice-read-length c = search needs
 
 cast-length : tie.Need-cast-length
 cast-length c = let at = c .before .before .before .args .at in omega (arith, c .shared-slice-known .given (at + 1))
 
 mul-length : tie.Need-mul-length
 mul-length c = let at = c .before .before .before .args .at in omega (arith, c .shared-slice-known .given (at + 1))
-
-add-length-2 : tie.Need-add-length-2
-add-length-2 c = search needs
-
-shared-slice-read-length-2 : tie.Need-shared-slice-read-length-2
-shared-slice-read-length-2 c = search needs
 
 cast-length-2 : tie.Need-cast-length-2
 cast-length-2 c = let at = c .before .before .before .before .args .at in omega (arith, c .shared-slice-known2 .given (at + 2))
@@ -46,18 +30,6 @@ add-length-3 : tie.Need-add-length-3
 add-length-3 c =
     let at = c .before .before .before .before .args .at in
     omega (arith, c .shared-slice-known2 .given (at + 1), c .shared-slice-known2 .given (at + 2))
-
-sub-if4 : tie.Need-sub-if4
-sub-if4 c = search needs
-
-sub-if4-2 : tie.Need-sub-if4-2
-sub-if4-2 c = search needs
-
-shared-slice-read-t26 : tie.Need-shared-slice-read-t26
-shared-slice-read-t26 c = search needs
-
-add-t27 : tie.Need-add-t27
-add-t27 c = search needs
 
 returns : tie.Need-returns
 returns c = let a = c .before .before .args in step-too (now (a .area)) (a .at) _ (head-beyond (now (a .area)) (a .at) (c .if2 .taken))
@@ -78,19 +50,19 @@ pub head-at-spec : {M : Type 1} → statement M
 head-at-spec =
     tie.close
     (tie.spec
-    sub-if3
-    add-length
-    shared-slice-read-length
+    (λ c. search needs)
+    (λ c. search needs)
+    (λ c. search needs)
     cast-length
     mul-length
-    add-length-2
-    shared-slice-read-length-2
+    (λ c. search needs)
+    (λ c. search needs)
     cast-length-2
     add-length-3
-    sub-if4
-    sub-if4-2
-    shared-slice-read-t26
-    add-t27
+    (λ c. search needs)
+    (λ c. search needs)
+    (λ c. search needs)
+    (λ c. search needs)
     returns
     returns-2
     returns-3

@@ -2,12 +2,13 @@
 use Prim.Native.Nat.{ℕ}
 use mathlib.Core.Path.{_≡_, sym, _∙_}
 use mathlib.Core.List.{List}
+use mathlib.Core.Logic.{inr}
 use borrow.Author.Needs.{needs}
 use denote.Ref.{now}
 use lib.ListN.{drop}
 use Rattle.exact.specs.Parser.{tail-all}
 use Rattle.tlv.specs.Test.{wellFormed, tested-is}
-use Rattle.walker.specs.Facts.{step-beyond}
+use Rattle.walker.specs.Laws.{refused-stays}
 use Rattle.walker.proofs.step_at.Statement.{statement}
 use Rattle.walker.proofs.step_at.Tie as tie
 
@@ -23,23 +24,8 @@ module _ (c : tie.After-well-formed) where
       let says = rw (tail-all place area) at (c .well-formed .ensures) in
       tested-is (drop place area) (c .well-formed .result) (says .0) (says .1)
 
-sub-well-formed : tie.Need-sub-well-formed
-sub-well-formed c = search needs
-
-part-well-formed-start : tie.Need-part-well-formed-start
-part-well-formed-start c = search needs
-
-part-well-formed-end : tie.Need-part-well-formed-end
-part-well-formed-end c = search needs
-
-well-formed-requires : tie.Need-well-formed-requires
-well-formed-requires c κs = search needs
-
-head-at-requires : tie.Need-head-at-requires
-head-at-requires c κs = search needs
-
 returns : tie.Need-returns
-returns c = let a = c .before .before .args in sym (step-beyond (now (a .area)) (a .at) (c .if1 .taken))
+returns c = let a = c .before .before .args in sym (refused-stays (now (a .area)) (a .at) (inr (c .if1 .taken)) .0)
 
 returns-2 : tie.Need-returns-2
 returns-2 c = let w = c .before .before in rw (tested w ∙ c .before .if2 .taken) (c .head-at .ensures .0)
@@ -50,12 +36,4 @@ returns-3 c = rw (tested (c .before) ∙ c .if2 .left)
 pub step-at-spec : {M : Type 1} → statement M
 step-at-spec =
     tie.close
-    (tie.spec
-    sub-well-formed
-    part-well-formed-start
-    part-well-formed-end
-    well-formed-requires
-    head-at-requires
-    returns
-    returns-2
-    returns-3)
+    (tie.spec (λ c. search needs) (λ c. search needs) (λ c. search needs) (λ c κs. search needs) (λ c κs. search needs) returns returns-2 returns-3)
