@@ -2,7 +2,7 @@
 use mathlib.Core.Path.{_≡_, refl, sym, ap, _∙_, subst}
 use mathlib.Core.Bool.{Bool, true, false}
 use mathlib.Core.List.{List, [], _∷_}
-use mathlib.Core.Logic.{_⊎_, inl, inr}
+use mathlib.Core.Logic.{_⊎_, inl, inr, _↔_}
 use Prim.Native.Nat.{ℕ, _+_, _≤_, _<_}
 use native.Mathlib.Omega.{arith}
 use lib.ListN.{length, drop, length-drop}
@@ -47,6 +47,31 @@ shows-from s at (t ∷ rest) h a =
       subst (λ (n : ℕ). Shows s n rest) (sym (ap (placeAfter at) e)) (shows-from s (at + 3 + length (t .value)) rest room (head-rest s at t rest a)),
     )
 
--- "from place 0 of a well-formed area the steps show its TLV list in order, each once, then the end"
-pub walk-shows : (s : List ℕ) (tlvs : List Tlv) → Area s tlvs → Shows s 0 tlvs
-walk-shows s tlvs a = shows-from s 0 tlvs (omega arith) a
+-- the steps from a place show one list only
+pub shows-one : (s : List ℕ) (at : ℕ) (a b : List Tlv) → Shows s at a → Shows s at b → a ≡ b
+shows-one s at [] [] x y = refl
+shows-one s at [] (u ∷ b) x y = let z : _≡_ {A = ℕ} 0 1 = cc in absurd (omega arith)
+shows-one s at (t ∷ a) [] x y = let z : _≡_ {A = ℕ} 0 1 = cc in absurd (omega arith)
+shows-one s at (t ∷ a) (u ∷ b) x y =
+    let type : t .type ≡ u .type = cc in
+    let value : t .value ≡ u .value = cc in
+    let tail : a ≡ b = shows-one s (placeAfter at (stepAt s at)) a b (x .2) (y .2) in
+    λ i. record { type = type i; value = value i } ∷ tail i
+
+-- where a list is shown, no step is refused
+not-refused : (s : List ℕ) (at : ℕ) (tlvs : List Tlv) → Shows s at tlvs → stepAt s at ≡ refused 12 → ⊥
+not-refused s at [] x e = let z : _≡_ {A = ℕ} 0 1 = cc in omega arith
+not-refused s at (t ∷ rest) x e = let z : _≡_ {A = ℕ} 0 1 = cc in omega arith
+
+shown-area : (s : List ℕ) (tlvs : List Tlv) → Shows s 0 tlvs → Area s tlvs
+shown-area s tlvs x = by (wellFormed s) refl
+  where
+    by : (b : Bool) → wellFormed s ≡ b → Area s tlvs
+    by true e =
+        let w = well-formed-tested s .0 e in
+        subst (Area s) (shows-one s 0 (w .0) tlvs (shows-from s 0 (w .0) (omega arith) (w .1)) x) (w .1)
+    by false e = absurd (not-refused s 0 tlvs x (rw e))
+
+-- "So from place 0 of a well-formed area the steps show its TLV list in order, each once, then the end", and they show no other list
+pub walk-shows : (s : List ℕ) (tlvs : List Tlv) → Area s tlvs ↔ Shows s 0 tlvs
+walk-shows s tlvs = (shows-from s 0 tlvs (omega arith), shown-area s tlvs)
