@@ -10,13 +10,37 @@ use Rattle.lookup.specs.declared.Answer.{Answer}
 use Rattle.lookup.specs.declared.Answer.the-variants.{Found, Absent, GaveUp, IllFormed}
 use Rattle.lookup.specs.declared.Examined.{Examined}
 
+-- what a lookup finds out: "found", "absent", "gave up", or a number
+pub data Outcome : Type 0 where
+  found : Outcome
+  absent : Outcome
+  gaveUp : Outcome
+  refused : (number : ℕ) → Outcome
+
+-- that with "the number of TLVs examined", and "where the value starts in the area and its length"
+pub record Lookup : Type 0 where
+  pub outcome : Outcome
+  pub count : ℕ
+  pub start : ℕ
+  pub length : ℕ
+
+-- "this paper's number and values for each of its cases"
+abbrev pub toldOutcome : Answer → Outcome
+toldOutcome Found = found
+toldOutcome Absent = absent
+toldOutcome GaveUp = gaveUp
+toldOutcome IllFormed = refused 12
+
+abbrev pub toldLookup : Examined → Lookup
+toldLookup r = record { outcome = toldOutcome (r .answer); count = r .count; start = r .start; length = r .length }
+
 -- "Found also gives where the value starts in the area and its length"
-abbrev pub found : ℕ → ℕ → ℕ → Examined
-found count start size = record { answer = Found; count = count; start = start; length = size }
+abbrev pub foundAt : ℕ → ℕ → ℕ → Lookup
+foundAt count start size = record { outcome = found; count = count; start = start; length = size }
 
 -- "the other answers give 0 for both"
-abbrev pub without : Answer → ℕ → Examined
-without answer count = record { answer = answer; count = count; start = 0; length = 0 }
+abbrev pub without : Outcome → ℕ → Lookup
+without outcome count = record { outcome = outcome; count = count; start = 0; length = 0 }
 
 -- the index of "the first TLV of that type"; N, "if there is none"
 abbrev pub firstOf : ℕ → List Tlv → ℕ
@@ -35,29 +59,21 @@ lengthOf (suc i) (t ∷ rest) = lengthOf i rest
 
 -- "With N TLVs and limit M: found, if the first TLV of that type has index i below M, count i + 1; absent, if there is none and N is
 -- at most M, count N; otherwise gave up, count M"
-abbrev pub lookupBy : ℕ → List Tlv → ℕ → ℕ → Examined
+abbrev pub lookupBy : ℕ → List Tlv → ℕ → ℕ → Lookup
 lookupBy i tlvs n m =
     pick (ltb i n)
-    (pick (ltb i m) (found (i + 1) (startOf i tlvs) (lengthOf i tlvs)) (without GaveUp m))
-    (pick (leb n m) (without Absent n) (without GaveUp m))
+    (pick (ltb i m) (foundAt (i + 1) (startOf i tlvs) (lengthOf i tlvs)) (without gaveUp m))
+    (pick (leb n m) (without absent n) (without gaveUp m))
 
-abbrev pub lookupIn : List Tlv → ℕ → ℕ → Examined
+abbrev pub lookupIn : List Tlv → ℕ → ℕ → Lookup
 lookupIn tlvs wanted limit = lookupBy (firstOf wanted tlvs) tlvs (length tlvs) limit
 
 -- "An ill-formed area: 12, count 0"
-abbrev pub illFormed : Examined
-illFormed = without IllFormed 0
-
--- document 01's number of an answer; 0 where it has none
-abbrev pub numberOf : Answer → ℕ
-numberOf Found = 0
-numberOf Absent = 0
-numberOf GaveUp = 0
-numberOf IllFormed = 12
+abbrev pub illFormed : Lookup
+illFormed = without (refused 12) 0
 
 -- what a lookup answers for every area, and that it "never examines more than the limit"
 pub record LooksUp (area : List ℕ) (wanted limit : ℕ) (r : Examined) : Type 0 where
-  pub listed : (tlvs : List Tlv) → Area area tlvs → r ≡ lookupIn tlvs wanted limit
-  pub refused : (WellFormed area → ⊥) → r ≡ illFormed
-  pub number : (WellFormed area → ⊥) → numberOf (r .answer) ≡ 12
+  pub listed : (tlvs : List Tlv) → Area area tlvs → toldLookup r ≡ lookupIn tlvs wanted limit
+  pub refuses : (WellFormed area → ⊥) → toldLookup r ≡ illFormed
   pub within : r .count ≤ limit

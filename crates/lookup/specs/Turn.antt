@@ -6,11 +6,16 @@ use native.Mathlib.Omega.{arith}
 use lib.ListN.{length, getD, drop}
 use Rattle.tlv.specs.Tlv.{Tlv, Area, WellFormed}
 use Rattle.tlv.specs.Laws.{area-one}
-use Rattle.lookup.specs.Lookup.{found, without, illFormed, lookupIn, LooksUp}
+use Rattle.lookup.specs.Lookup.{absent, gaveUp, toldLookup, foundAt, without, lookupIn, LooksUp}
 use Rattle.tlv.specs.Heads.{sizeAt, head-type, head-size, head-room, head-rest, none-left, some-left}
 use Rattle.lookup.specs.Steps.{past, past-start, past-past, lookup-none, lookup-out, lookup-found, lookup-past}
-use Rattle.lookup.specs.declared.Answer.the-variants.{Absent, GaveUp}
+use Rattle.lookup.specs.declared.Answer.{Answer}
+use Rattle.lookup.specs.declared.Answer.the-variants.{Found, Absent, GaveUp, IllFormed}
 use Rattle.lookup.specs.declared.Examined.{Examined}
+
+-- the code's answer
+abbrev pub examined : Answer → ℕ → ℕ → ℕ → Examined
+examined answer count start size = record { answer = answer; count = count; start = start; length = size }
 
 -- where the TLVs of s are passed up to a place, so many of them
 pub record Left (s : List ℕ) (wanted limit at count : ℕ) : Type 0 where
@@ -20,6 +25,7 @@ pub record Left (s : List ℕ) (wanted limit at count : ℕ) : Type 0 where
   remains : Area (drop at s) rest
   answer : lookupIn all wanted limit ≡ past count at (lookupIn rest wanted (limit - count))
   pub within : count ≤ limit
+  pub few : count ≤ at
 
 -- the same where a TLV stands at the place
 record Ahead (s : List ℕ) (wanted limit at count : ℕ) : Type 0 where
@@ -40,28 +46,28 @@ module _ (s : List ℕ) (wanted limit : ℕ) where
         remains = w .1;
         answer = past-start (w .0) wanted limit;
         within = omega arith;
+        few = omega arith;
       }
 
-  answers : (all : List Tlv) (r : Examined) → Area s all → r ≡ lookupIn all wanted limit → r .count ≤ limit → LooksUp s wanted limit r
+  answers : (all : List Tlv) (r : Examined) → Area s all → toldLookup r ≡ lookupIn all wanted limit → r .count ≤ limit → LooksUp s wanted limit r
   answers all r a e h =
       record {
         listed = λ tlvs b. e ∙ ap (λ (x : List Tlv). lookupIn x wanted limit) (area-one s all tlvs a b);
-        refused = λ not. absurd (not (all, a));
-        number = λ not. absurd (not (all, a));
+        refuses = λ not. absurd (not (all, a));
         within = h;
       }
 
-  pub left-ill : (WellFormed s → ⊥) → LooksUp s wanted limit illFormed
-  left-ill not = record { listed = λ tlvs a. absurd (not (tlvs, a)); refused = λ n. refl; number = λ n. refl; within = omega arith }
+  pub left-ill : (WellFormed s → ⊥) → LooksUp s wanted limit (examined IllFormed 0 0 0)
+  left-ill not = record { listed = λ tlvs a. absurd (not (tlvs, a)); refuses = λ n. refl; within = omega arith }
 
   module _ (at count : ℕ) (l : Left s wanted limit at count) where
-    pub left-done : length s ≤ at → LooksUp s wanted limit (without Absent count)
+    pub left-done : length s ≤ at → LooksUp s wanted limit (examined Absent count 0 0)
     left-done h =
-        let e : past count at (lookupIn (l .rest) wanted (limit - count)) ≡ past count at (without Absent 0) =
+        let e : past count at (lookupIn (l .rest) wanted (limit - count)) ≡ past count at (without absent 0) =
         ap (λ (x : List Tlv). past count at (lookupIn x wanted (limit - count))) (none-left s at (l .rest) h (l .remains))
         ∙ ap (past count at) (lookup-none wanted (limit - count)) in
         let n : count + 0 ≡ count = omega arith in
-        answers (l .all) (without Absent count) (l .area) (sym (l .answer ∙ e ∙ ap (without Absent) n)) (l .within)
+        answers (l .all) (examined Absent count 0 0) (l .area) (sym (l .answer ∙ e ∙ ap (without absent) n)) (l .within)
 
     ahead-by : (rest : List Tlv) → Area (drop at s) rest → lookupIn (l .all) wanted limit ≡ past count at (lookupIn rest wanted (limit - count)) → at < length s → Ahead s wanted limit at count
     ahead-by [] a e h = absurd (some-left s at h a)
@@ -77,29 +83,29 @@ module _ (s : List ℕ) (wanted limit : ℕ) where
         let g = head-room s at (t .tlv) (t .rest) (t .remains) in
         omega arith
 
-    pub left-out : at < length s → limit ≤ count → LooksUp s wanted limit (without GaveUp count)
+    pub left-out : at < length s → limit ≤ count → LooksUp s wanted limit (examined GaveUp count 0 0)
     left-out h out =
         let t = ahead h in
         let none : limit - count ≡ 0 = omega (arith, l .within) in
         let n : count + 0 ≡ count = omega arith in
-        let e : past count at (lookupIn (t .tlv ∷ t .rest) wanted (limit - count)) ≡ past count at (without GaveUp 0) =
+        let e : past count at (lookupIn (t .tlv ∷ t .rest) wanted (limit - count)) ≡ past count at (without gaveUp 0) =
         ap (λ (m : ℕ). past count at (lookupIn (t .tlv ∷ t .rest) wanted m)) none
         ∙ ap (past count at) (lookup-out (t .tlv) (t .rest) wanted) in
-        answers (t .all) (without GaveUp count) (t .area) (sym (t .answer ∙ e ∙ ap (without GaveUp) n)) (l .within)
+        answers (t .all) (examined GaveUp count 0 0) (t .area) (sym (t .answer ∙ e ∙ ap (without gaveUp) n)) (l .within)
 
     module _ (h : at < length s) (some : count < limit) where
       more : limit - count ≡ suc (limit - (count + 1))
       more = omega arith
 
-      pub left-found : getD s at 0 ≡ wanted → LooksUp s wanted limit (found (count + 1) (at + 3) (sizeAt s at))
+      pub left-found : getD s at 0 ≡ wanted → LooksUp s wanted limit (examined Found (count + 1) (at + 3) (sizeAt s at))
       left-found is =
           let t = ahead h in
           let e =
           t .answer
           ∙ ap (λ (m : ℕ). past count at (lookupIn (t .tlv ∷ t .rest) wanted m)) more
           ∙ ap (past count at) (lookup-found (t .tlv) (t .rest) wanted (limit - (count + 1)) (sym (head-type s at (t .tlv) (t .rest) (t .remains)) ∙ is))
-          ∙ ap (found (count + 1) (at + 3)) (sym (head-size s at (t .tlv) (t .rest) (t .remains))) in
-          answers (t .all) (found (count + 1) (at + 3) (sizeAt s at)) (t .area) (sym e) (omega arith)
+          ∙ ap (foundAt (count + 1) (at + 3)) (sym (head-size s at (t .tlv) (t .rest) (t .remains))) in
+          answers (t .all) (examined Found (count + 1) (at + 3) (sizeAt s at)) (t .area) (sym e) (omega arith)
 
       pub left-again : (getD s at 0 ≡ wanted → ⊥) → Left s wanted limit (at + 3 + sizeAt s at) (count + 1)
       left-again not =
@@ -119,4 +125,5 @@ module _ (s : List ℕ) (wanted limit : ℕ) where
                 ∙ past-past count 1 at (3 + length (t .tlv .value)) (lookupIn (t .rest) wanted (limit - (count + 1)))
                 ∙ ap (λ (b : ℕ). past (count + 1) b (lookupIn (t .rest) wanted (limit - (count + 1)))) next;
             within = omega arith;
+            few = omega (arith, l .few);
           }

@@ -48,7 +48,7 @@ returns c =
     left-out (area l) (wanted l) (limit l) (place l) (l .loop .count) (l .loop .inv) (omega arith) (omega arith)
 
 add-count : tie.Need-add-count Inv-loop μ-loop
-add-count c = omega arith
+add-count c = omega (arith, c .before .before .loop .inv .few)
 
 add-size : tie.Need-add-size Inv-loop μ-loop
 add-size c = omega arith
