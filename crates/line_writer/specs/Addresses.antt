@@ -1,15 +1,11 @@
 -- Addresses as the version 1 writer writes them (document 01, "The text line").
-use mathlib.Core.List.{List, [], _∷_, _++_}
+use mathlib.Core.Bool.{Bool}
+use mathlib.Core.List.{List, [], _∷_}
 use Prim.Native.Nat.{ℕ, _+_, _*_}
 use lib.ListN.{take}
 use Rattle.exact.specs.Ascii.{ascii}
-use Rattle.line_writer.specs.Numeral.{decimalText, groupText}
-
--- the texts of numbers, with a separator between two
-abbrev pub joined : (separator : List ℕ) (text : ℕ → List ℕ) → List ℕ → List ℕ
-joined separator text [] = []
-joined separator text (n ∷ []) = text n
-joined separator text (n ∷ m ∷ ns) = text n ++ separator ++ joined separator text (m ∷ ns)
+use Rattle.exact.specs.Pick.{pick}
+use Rattle.draft.specs.Numeral.{decimalText, hexText, joined}
 
 -- "IPv4: four decimals 0 to 255 with dots"
 abbrev pub octetsText : List ℕ → List ℕ
@@ -17,7 +13,7 @@ octetsText octets = joined (ascii ".") decimalText octets
 
 -- "It writes IPv6 as eight groups, lower case, no leading zeros, never "::" (H)"
 abbrev pub groupsText : List ℕ → List ℕ
-groupsText groups = joined (ascii ":") groupText groups
+groupsText groups = joined (ascii ":") hexText groups
 
 -- the groups of an address's bytes, each in network order: high byte first
 abbrev pub groupsOf : List ℕ → List ℕ
@@ -31,3 +27,6 @@ ip4Text held = octetsText (take 4 held)
 
 abbrev pub ip6Text : List ℕ → List ℕ
 ip6Text held = groupsText (groupsOf (take 16 held))
+
+abbrev pub addressText : (six : Bool) → List ℕ → List ℕ
+addressText six held = pick six (ip6Text held) (ip4Text held)

@@ -2,7 +2,7 @@
 use mathlib.Core.Path.{_≡_, sym, _∙_}
 use mathlib.Core.List.{List, [], _∷_, _++_, append-assoc}
 use mathlib.Core.Logic.{_⊎_, inl, inr, ⊎-elim}
-use Prim.Native.Nat.{ℕ, _+_, _-_, _≤_, _<_}
+use Prim.Native.Nat.{ℕ, _≤_, _<_}
 use Prim.Native.Char.{code}
 use native.Mathlib.Omega.{arith}
 use lib.Dec.{ltb}
@@ -12,9 +12,9 @@ use borrow.Author.Tests.{ltb-true, ltb-false}
 use Rattle.exact.specs.Ascii.{ascii}
 use Rattle.exact.specs.Pick.{pick-by}
 use Rattle.text.specs.Decimal.{Plain}
-use Rattle.line_writer.specs.Numeral.{digit, groupText}
+use Rattle.draft.specs.Numeral.{digit, hexText}
 use Rattle.line_writer.specs.Addresses.{groupsText, groupsOf}
-use Rattle.line_writer.specs.NumeralLaws.{numeral-all, numeral-plain}
+use Rattle.draft.specs.NumeralLaws.{numeral-all, numeral-plain}
 use Rattle.line_writer.specs.AddressLaws.{groups-count}
 
 -- "eight groups"
@@ -34,11 +34,11 @@ lower-digit d small =
     pick-by LowerDigit (ltb d 10) (λ t. let h = ltb-true d 10 t in inl (omega arith, omega arith))
     (λ t. let h = ltb-false d 10 t in inr (omega arith, omega arith))
 
-pub lower-case : (n : ℕ) → LowerDigits (groupText n)
+pub lower-case : (n : ℕ) → LowerDigits (hexText n)
 lower-case = numeral-all 16 (omega arith) LowerDigit LowerDigits tt (λ c f x y. (x, y)) lower-digit
 
 -- "no leading zeros": at least one digit, and no "0" before another
-pub no-leading-zeros : (n : ℕ) → Plain (groupText n)
+pub no-leading-zeros : (n : ℕ) → Plain (hexText n)
 no-leading-zeros = numeral-plain 16 (omega arith)
 
 -- ── "never "::"" ──
@@ -63,16 +63,16 @@ no-first [] r right lower plain e = plain
 no-first (c ∷ f) r right lower plain e = let same : c ≡ 58 = cc in ⊎-elim (λ h. omega arith) (λ h. omega arith) (lower .0)
 
 groups-first : (g : ℕ) (gs right : List ℕ) → groupsText (g ∷ gs) ≡ 58 ∷ right → ⊥
-groups-first g [] right e = no-colon (groupText g) [] right (lower-case g) e
+groups-first g [] right e = no-colon (hexText g) [] right (lower-case g) e
 groups-first g (h ∷ gs) right e =
-    no-first (groupText g) (58 ∷ groupsText (h ∷ gs)) right (lower-case g) (no-leading-zeros g)
-    (sym (append-snoc (groupText g) 58 (groupsText (h ∷ gs))) ∙ e)
+    no-first (hexText g) (58 ∷ groupsText (h ∷ gs)) right (lower-case g) (no-leading-zeros g)
+    (sym (append-snoc (hexText g) 58 (groupsText (h ∷ gs))) ∙ e)
 
 apart : (g : ℕ) (gs left right : List ℕ) → groupsText (g ∷ gs) ≡ left ++ 58 ∷ 58 ∷ right → ⊥
-apart g [] left right e = no-colon (groupText g) left (58 ∷ right) (lower-case g) e
+apart g [] left right e = no-colon (hexText g) left (58 ∷ right) (lower-case g) e
 apart g (h ∷ gs) left right e =
     ⊎-elim (λ q. groups-first h gs right q) (λ q. apart h gs (q .0) right (q .1))
-    (first-colon (groupText g) (groupsText (h ∷ gs)) left (58 ∷ right) (lower-case g) (sym (append-snoc (groupText g) 58 (groupsText (h ∷ gs))) ∙ e))
+    (first-colon (hexText g) (groupsText (h ∷ gs)) left (58 ∷ right) (lower-case g) (sym (append-snoc (hexText g) 58 (groupsText (h ∷ gs))) ∙ e))
 
 pub never-shortened : (g : ℕ) (gs left right : List ℕ) → groupsText (g ∷ gs) ≡ left ++ ascii "::" ++ right → ⊥
 never-shortened g gs left right e = apart g gs left right (e ∙ simp append-assoc)

@@ -1,11 +1,7 @@
-pub mod Numeral
 pub mod Addresses
 pub mod Written
-pub mod NumeralLaws
 pub mod AddressLaws
 pub mod Texts
-pub mod Drafts
-pub mod DraftLaws
 pub mod LineLaws
 pub mod Form
 pub mod Demand

@@ -1,9 +1,9 @@
--- For proofs. The line that is written for a record that version 1 can carry is a whole line that says it; and how long its parts are.
+-- For proofs. The line that is written for a record that version 1 can carry is a whole line that says it, and fits a draft.
 use mathlib.Core.Path.{_≡_, refl, sym, ap, ap₂, _∙_, subst}
-use mathlib.Core.Bool.{Bool, true, false}
-use mathlib.Core.List.{List, [], _++_, append-assoc}
+use mathlib.Core.Bool.{true}
+use mathlib.Core.List.{List, []}
 use mathlib.Core.Logic.{inl, inr}
-use Prim.Native.Nat.{ℕ, _-_, _≤_, _<_}
+use Prim.Native.Nat.{ℕ, _≤_}
 use native.Mathlib.Omega.{arith}
 use lib.ListN.{length, take, drop, take-append-drop}
 use lib.Seq.{length-take-le}
@@ -11,8 +11,6 @@ use Rattle.exact.specs.Ascii.{ascii}
 use Rattle.exact.specs.Claim.{AllBytes}
 use Rattle.exact.specs.Parser.{bytes-front}
 use Rattle.text.specs.Ip4.{Address as Ip4Address}
-use Rattle.text.specs.Laws.{address-length as ip4-length}
-use Rattle.ip6.specs.Bounds.{address-bounds}
 use Rattle.record.specs.declared.Transport.the-variants.{Stream, Datagram}
 use Rattle.record.specs.declared.Kind.{Kind}
 use Rattle.record.specs.declared.Kind.the-variants.{Local, Unspecified, Ip4, Ip6, Unix}
@@ -21,13 +19,11 @@ use Rattle.record.specs.Kinds.{addressLength}
 use Rattle.record.specs.Records.{recordOf, bare, PortFits, Clean, Sized}
 use Rattle.record.specs.AddressBlockLaws.{address-fits, made-again}
 use Rattle.header.specs.Line.{TcpLine, Ip6Address, Line}
-use Rattle.line_writer.specs.declared.Draft.{Draft}
-use Rattle.line_writer.specs.Numeral.{decimalText}
+use Rattle.header.specs.Facts.{longest-tcp4, longest-tcp6}
+use Rattle.draft.specs.Decimals.{decimal-text}
 use Rattle.line_writer.specs.Addresses.{octetsText, groupsText, groupsOf}
 use Rattle.line_writer.specs.Written.{hasForm, tcpText, lineText, writtenLine}
-use Rattle.line_writer.specs.Drafts.{Drafted, addressText, portsText}
-use Rattle.line_writer.specs.NumeralLaws.{numeral-length}
-use Rattle.line_writer.specs.Texts.{decimal-text, octets-text, ip6-text}
+use Rattle.line_writer.specs.Texts.{octets-text, ip6-text}
 
 -- the address at the front of an array
 module _ (n : ℕ) (fits : n ≤ 108) (a : List ℕ) (size : length a ≡ 108) where
@@ -95,30 +91,16 @@ line-of (Ip6 Stream) r kind form sized clean = inr (inr (tcp6-line r kind sized 
 line-of (Ip6 Datagram) r kind form sized clean = absurd (let z : _≡_ {A = ℕ} 0 1 = cc in omega arith)
 line-of (Unix t) r kind form sized clean = absurd (let z : _≡_ {A = ℕ} 0 1 = cc in omega arith)
 
--- the ports and the end of a line, behind its front
-parts : (front space p q end : List ℕ) → front ++ (space ++ p ++ space ++ q ++ end) ≡ front ++ space ++ p ++ space ++ q ++ end
-parts front space p q end = simp append-assoc
+-- "Longest TCP4 line 56 bytes, TCP6 104"
+line-fits : (k : Kind) (r : Record) → r .kind ≡ k → Sized r → Clean r → length (lineText k r) ≤ 104
+line-fits Local r kind sized clean = omega arith
+line-fits Unspecified r kind sized clean = omega arith
+line-fits (Ip4 Stream) r kind sized clean = let h = longest-tcp4 _ r (tcp4-line r kind sized clean) in omega arith
+line-fits (Ip4 Datagram) r kind sized clean = omega arith
+line-fits (Ip6 Stream) r kind sized clean = longest-tcp6 _ r (tcp6-line r kind sized clean)
+line-fits (Ip6 Datagram) r kind sized clean = omega arith
+line-fits (Unix t) r kind sized clean = omega arith
 
-pub tcp-parts : (word : List ℕ) (address : List ℕ → List ℕ) (r : Record)
-    → ascii "PROXY " ++ word ++ ascii " " ++ address (r .source) ++ ascii " " ++ address (r .destination) ++ portsText (r .«source_port») (r .«destination_port»)
-    ≡ tcpText word address r
-tcp-parts word address r =
-    parts (ascii "PROXY " ++ word ++ ascii " " ++ address (r .source) ++ ascii " " ++ address (r .destination)) (ascii " ")
-    (decimalText (r .«source_port»)) (decimalText (r .«destination_port»)) (ascii "\r\n")
-
--- the draft of a record's line
-pub drafted-line : (r : Record) {k : Kind} {d : Draft} → r .kind ≡ k → Drafted (lineText k r) d → Drafted (writtenLine r) d
+pub written-fits : (r : Record) → Sized r → Clean r → length (writtenLine r) ≤ 104
 unfolding writtenLine
-drafted-line r {k} {d} e a = subst (λ (j : Kind). Drafted (lineText j r) d) (sym e) a
-
--- ── lengths ──
-pub port-length : (p : ℕ) → p < 65536 → length (decimalText p) ≤ 5
-port-length p small = numeral-length 10 (omega arith) 4 p (omega arith)
-
--- 15 and 39
-pub address-length : (six : Bool) (a : List ℕ) → length a ≡ 108 → AllBytes a → length (addressText six a) ≤ 39
-address-length true a size small =
-    address-bounds _ _ (ip6-text (take 16 a) (front-size 16 (omega arith) a size) (front-bytes 16 (omega arith) a size small) .text) .short
-address-length false a size small =
-    let h = ip4-length _ _ (octets-text (take 4 a) (front-size 4 (omega arith) a size) (front-bytes 4 (omega arith) a size small)) in
-    omega arith
+written-fits r = line-fits (r .kind) r refl

@@ -6,38 +6,22 @@ use Prim.Native.Nat.{ℕ, suc, zero, _+_, _*_, _-_, _/_, _%_, _≤_, _<_}
 use native.Mathlib.Omega.{arith}
 use lib.Dec.{ltb}
 use lib.ListN.{length}
-use borrow.Author.Tests.{lt-ltb, ltb-true, ltb-false}
+use borrow.Author.Tests.{ltb-true, ltb-false}
 use Rattle.exact.specs.Claim.{AllBytes}
 use Rattle.exact.specs.Pick.{pick-by}
-use Rattle.text.specs.Decimal.{Digit, Digits, Plain, valueOn, Decimal}
+use Rattle.text.specs.Decimal.{Plain}
 use Rattle.text.specs.Ip4.{Address as Ip4Address}
 use Rattle.ip6.specs.Address.{hexOf, HexDigits, number, Group, Groups, Address as Ip6Text}
 use Rattle.ip6.specs.Hex.{hex-decimal, hex-lower}
 use Rattle.ip6.specs.Bounds.{AllWords}
 use Rattle.header.specs.Line.{groupBytes, Ip6Address}
-use Rattle.line_writer.specs.Numeral.{digit, decimalText, groupText}
+use Rattle.draft.specs.Numeral.{digit, decimalText, hexText}
+use Rattle.draft.specs.Decimals.{decimal-text}
+use Rattle.draft.specs.NumeralLaws.{numeral-length, numeral-all, numeral-value, numeral-plain}
 use Rattle.line_writer.specs.Addresses.{octetsText, groupsText, groupsOf}
 use Rattle.line_writer.specs.AddressLaws.{groups-count}
-use Rattle.line_writer.specs.NumeralLaws.{numeral-length, numeral-all, numeral-value, numeral-plain}
 
--- ── numbers ──
-decimal-digit : (d : ℕ) → d < 10 → digit d ≡ 48 + d
-decimal-digit d small = simp (lt-ltb d 10 small)
-
--- decimal text, over the upper bound: octets and ports are its two uses
-pub decimal-text : (bound n : ℕ) → n ≤ bound → Decimal bound (decimalText n) n
-decimal-text bound n h =
-    record {
-      digits =
-          numeral-all 10 (omega arith) Digit Digits tt (λ c f x y. (x, y))
-          (λ d small. let e = decimal-digit d small in (omega arith, omega arith)) n;
-      plain = numeral-plain 10 (omega arith) n;
-      value =
-          numeral-value 10 (omega arith) (λ c. c - 48) valueOn (λ m. refl) (λ m c f. refl)
-          (λ d small. let e = decimal-digit d small in omega arith) n;
-      fits = h;
-    }
-
+-- ── groups ──
 some-digit : (f : List ℕ) → Plain f → 1 ≤ length f
 some-digit [] plain = absurd plain
 some-digit (c ∷ f) plain = omega arith
@@ -49,13 +33,13 @@ hex-digit d small =
     (λ t. let h = ltb-false d 10 t in hex-lower (97 + (d - 10)) (omega arith) (omega arith) ∙ omega arith)
 
 -- "groups of 1 to 4 hex digits"
-pub group-text : (n : ℕ) → n < 65536 → Group (groupText n) n
+pub group-text : (n : ℕ) → n < 65536 → Group (hexText n) n
 group-text n small =
     record {
       digits =
           numeral-all 16 (omega arith) (λ c. hexOf c < 16) HexDigits tt (λ c f x y. (x, y))
           (λ d few. let e = hex-digit d few in omega arith) n;
-      some = some-digit (groupText n) (numeral-plain 16 (omega arith) n);
+      some = some-digit (hexText n) (numeral-plain 16 (omega arith) n);
       few = numeral-length 16 (omega arith) 3 n (omega arith);
       value = numeral-value 16 (omega arith) hexOf number (λ m. refl) (λ m c f. refl) hex-digit n;
     }
@@ -90,7 +74,7 @@ octets-text (a ∷ b ∷ c ∷ d ∷ e ∷ more) size small = absurd (omega arit
 groups-joined : (g : ℕ) (gs : List ℕ) → AllWords (g ∷ gs) → Groups (groupsText (g ∷ gs)) (g ∷ gs)
 groups-joined g [] small = group-text g (small .0)
 groups-joined g (h ∷ gs) small =
-    (groupText g, groupsText (h ∷ gs), refl, group-text g (small .0), groups-joined h gs (small .1))
+    (hexText g, groupsText (h ∷ gs), refl, group-text g (small .0), groups-joined h gs (small .1))
 
 -- eight groups of 16 bits: "Either eight groups"
 pub groups-text : (groups : List ℕ) → length groups ≡ 8 → AllWords groups → Ip6Text (groupsText groups) groups

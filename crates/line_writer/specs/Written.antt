@@ -16,7 +16,7 @@ use Rattle.record.specs.Unused.{cleanTest}
 use Rattle.answer.specs.declared.Fault.the-variants.{Form, Unused, Room}
 use Rattle.answer.specs.declared.Written.{Written}
 use Rattle.answer.specs.declared.Written.the-variants.{Bytes, Refused}
-use Rattle.line_writer.specs.Numeral.{decimalText}
+use Rattle.draft.specs.Numeral.{decimalText}
 use Rattle.line_writer.specs.Addresses.{ip4Text, ip6Text}
 
 -- "The version 1 writer carries IPv4 stream, IPv6 stream and unspecified"

@@ -1,114 +1,40 @@
 // The version 1 writer (document 01, "The text line"). No public function has a `requires`.
 use answer::Fault;
 use answer::Written;
+use draft::Draft;
+use draft::empty;
+use draft::push;
+use draft::push_decimal;
+use draft::push_decimals;
+use draft::push_hexes;
+use draft::push_word;
 use record::Kind;
 use record::Record;
 use record::Transport;
 use record::clean;
 use record::put;
 ghost use mathlib.Core.Path.{_≡_};
-ghost use mathlib.Core.List.{[], _∷_};
-ghost use Prim.Native.Nat.{_+_, _*_, _≤_, _<_};
+ghost use mathlib.Core.List.{[]};
+ghost use Prim.Native.Nat.{_+_, _*_};
 ghost use lib.ListN.{length, take};
-ghost use Rattle.line_writer.specs.Numeral.{digit as digitOf, numeral};
-ghost use Rattle.line_writer.specs.Addresses.{joined, octetsText, groupsText, groupsOf};
-ghost use Rattle.line_writer.specs.Written.{hasForm, tcpText, writtenLine, lineAnswer};
+ghost use Rattle.draft.specs.Drafts.{draftOf, appended};
 ghost use Rattle.answer.specs.Answers.{outputAfter};
+ghost use Rattle.line_writer.specs.Addresses.{octetsText, groupsText, groupsOf, addressText};
+ghost use Rattle.line_writer.specs.Written.{hasForm, tcpText, writtenLine, lineAnswer};
 ghost use Rattle.line_writer.specs.Demand.{ReadsBack};
-ghost use Rattle.line_writer.specs.Drafts.{Empty, Extended, Drafted, addressText, portsText};
-
-// The line so far: its first length bytes.
-struct Draft {
-    bytes: [u8; 104],
-    length: usize,
-}
-
-// Nothing yet.
-fn empty() -> Draft
-    ensures { λ r. ⌜ Empty r ⌝ }
-{
-    Draft {
-        bytes: [0; 104],
-        length: 0,
-    }
-}
-
-// One byte more.
-fn push(mut draft: Draft, byte: u8) -> Draft
-    requires { ⌜ draft .length < 104 ⌝ }
-    ensures { λ r. ⌜ Extended draft (byte ∷ []) r ⌝ }
-{
-    let at = draft.length;
-    draft.bytes[at] = byte;
-    draft.length = at + 1;
-    draft
-}
-
-// The bytes of a word.
-fn push_word(draft: Draft, word: &[u8]) -> Draft
-    requires { ⌜ draft .length + length (now word) ≤ 104 ⌝ }
-    ensures { λ r. ⌜ Extended draft (now (word .entry)) r ⌝ }
-{
-    let mut longer = draft;
-    let mut i: usize = 0;
-    while i < word.len() {
-        longer = push(longer, word[i]);
-        i += 1;
-    }
-    longer
-}
-
-// A digit, in a base up to 16.
-fn digit(d: u16) -> u8
-    requires { ⌜ d < 16 ⌝ }
-    ensures { λ r. ⌜ r ≡ digitOf d ⌝ }
-{
-    if d < 10 {
-        b'0' + d as u8
-    } else {
-        b'a' + (d - 10) as u8
-    }
-}
-
-// A number in a base.
-fn push_number(draft: Draft, base: u16, n: u16) -> Draft
-    requires { ⌜ (2 ≤ base) × (base ≤ 16) × (draft .length + length (numeral base n) ≤ 104) ⌝ }
-    ensures { λ r. ⌜ Extended draft (numeral base n) r ⌝ }
-{
-    if n < base {
-        return push(draft, digit(n));
-    }
-    push(push_number(draft, base, n / base), digit(n % base))
-}
-
-// Numbers in a base, at least one, with a byte between two.
-fn push_numbers(draft: Draft, base: u16, separator: u8, numbers: &[u16]) -> Draft
-    requires { ⌜ (2 ≤ base) × (base ≤ 16) × (1 ≤ length (now numbers)) × (draft .length + length (joined (separator ∷ []) (numeral base) (now numbers)) ≤ 104) ⌝ }
-    ensures { λ r. ⌜ Extended draft (joined (separator ∷ []) (numeral base) (now (numbers .entry))) r ⌝ }
-{
-    let mut longer = push_number(draft, base, numbers[0]);
-    let mut i: usize = 1;
-    while i < numbers.len() {
-        longer = push_number(push(longer, separator), base, numbers[i]);
-        i += 1;
-    }
-    longer
-}
 
 // IPv4 text: four decimals with dots.
 fn push_octets(draft: Draft, octets: [u16; 4]) -> Draft
-    requires { ⌜ draft .length + length (octetsText octets) ≤ 104 ⌝ }
-    ensures { λ r. ⌜ Extended draft (octetsText octets) r ⌝ }
+    ensures { λ r. ⌜ r ≡ appended draft (octetsText octets) ⌝ }
 {
-    push_numbers(draft, 10, b'.', &octets)
+    push_decimals(draft, b'.', &octets)
 }
 
 // IPv6 text: eight groups with colons.
 fn push_groups(draft: Draft, groups: [u16; 8]) -> Draft
-    requires { ⌜ draft .length + length (groupsText groups) ≤ 104 ⌝ }
-    ensures { λ r. ⌜ Extended draft (groupsText groups) r ⌝ }
+    ensures { λ r. ⌜ r ≡ appended draft (groupsText groups) ⌝ }
 {
-    push_numbers(draft, 16, b':', &groups)
+    push_hexes(draft, b':', &groups)
 }
 
 // A byte as a number.
@@ -147,8 +73,7 @@ fn groups_of(held: [u8; 108]) -> [u16; 8]
 
 // The address that a record holds: of IPv6 if six, else of IPv4.
 fn push_address(draft: Draft, six: bool, held: [u8; 108]) -> Draft
-    requires { ⌜ draft .length + 39 ≤ 104 ⌝ }
-    ensures { λ r. ⌜ Extended draft (addressText six held) r ⌝ }
+    ensures { λ r. ⌜ r ≡ appended draft (addressText six held) ⌝ }
 {
     if six {
         push_groups(draft, groups_of(held))
@@ -157,32 +82,25 @@ fn push_address(draft: Draft, six: bool, held: [u8; 108]) -> Draft
     }
 }
 
-// The ports, and the end of the line: 1 + 5 + 1 + 5 + 2 = 14 bytes at most.
-fn push_ports(draft: Draft, source: u16, destination: u16) -> Draft
-    requires { ⌜ draft .length + 14 ≤ 104 ⌝ }
-    ensures { λ r. ⌜ Extended draft (portsText source destination) r ⌝ }
-{
-    let from = push_number(push(draft, b' '), 10, source);
-    let to = push_number(push(from, b' '), 10, destination);
-    push_word(to, b"\r\n")
-}
-
-// A TCP line: 6 + 4 + 1 + 39 + 1 + 39 + 14 = 104 bytes at most.
+// A TCP line: 6 + 4 + 1 + 39 + 1 + 39 + 1 + 5 + 1 + 5 + 2 = 104 bytes at most.
 fn tcp_line(word: &[u8], six: bool, connection: Record) -> Draft
-    requires { ⌜ length (now word) ≡ 4 ⌝ }
-    ensures { λ r. ⌜ Drafted (tcpText (now (word .entry)) (addressText six) connection) r ⌝ }
+    ensures { λ r. ⌜ r ≡ appended (draftOf []) (tcpText (now (word .entry)) (addressText six) connection) ⌝ }
 {
     let source = connection.source;
     let destination = connection.destination;
     let start = push(push_word(push_word(empty(), b"PROXY "), word), b' ');
-    let from = push_address(start, six, source);
-    let to = push_address(push(from, b' '), six, destination);
-    push_ports(to, connection.source_port, connection.destination_port)
+    let from = push(push_address(start, six, source), b' ');
+    let to = push(push_address(from, six, destination), b' ');
+    let port = push(push_decimal(to, connection.source_port as u64), b' ');
+    push_word(
+        push_decimal(port, connection.destination_port as u64),
+        b"\r\n",
+    )
 }
 
 // The line of a record; empty for a kind without a form.
 fn line(connection: Record) -> Draft
-    ensures { λ r. ⌜ Drafted (writtenLine connection) r ⌝ }
+    ensures { λ r. ⌜ r ≡ appended (draftOf []) (writtenLine connection) ⌝ }
 {
     let kind = connection.kind;
     match kind {

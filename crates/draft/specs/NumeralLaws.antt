@@ -2,7 +2,7 @@
 use mathlib.Core.Path.{_≡_, refl, sym, ap, _∙_, subst}
 use mathlib.Core.Bool.{Bool, true, false}
 use mathlib.Core.List.{List, [], _∷_, _++_, append-nil}
-use Prim.Native.Nat.{ℕ, zero, suc, _+_, _*_, _-_, _/_, _%_, _^_, _≤_, _<_}
+use Prim.Native.Nat.{ℕ, zero, suc, _+_, _*_, _/_, _%_, _^_, _≤_, _<_}
 use native.Mathlib.Nat.{div-add-mod', mod-lt, div-lt-self, le-div-iff-mul-le, pow-zero, pow-suc, mul-le-mul-right, lt-of-not-le}
 use native.Mathlib.Omega.{arith}
 use lib.Dec.{ltb}
@@ -11,7 +11,7 @@ use lib.Seq.{append-snoc}
 use borrow.Author.Tests.{lt-ltb, le-ltb, ltb-true, ltb-false}
 use Rattle.exact.specs.Pick.{pick-by}
 use Rattle.text.specs.Decimal.{Plain}
-use Rattle.line_writer.specs.Numeral.{digit, digitsOf, numeral}
+use Rattle.draft.specs.Numeral.{digit, digitsOf, numeral}
 
 module _ (base : ℕ) (two : 2 ≤ base) where
   digits-one : (most n : ℕ) → n < base → digitsOf base (suc most) n ≡ digit n ∷ []
@@ -45,9 +45,6 @@ module _ (base : ℕ) (two : 2 ≤ base) where
       let l = less n big in
       digits-more n n big
       ∙ ap (λ (f : List ℕ). f ++ digit (n % base) ∷ []) (digits-same n (suc (n / base)) (n / base) (omega arith) (omega arith))
-
-  pub numeral-longer : (n : ℕ) → base ≤ n → length (numeral base n) ≡ length (numeral base (n / base)) + 1
-  numeral-longer n big = ap length (numeral-more n big) ∙ length-append (numeral base (n / base)) (digit (n % base) ∷ [])
 
 -- the text f of n, digit by digit
 data Spelt (base : ℕ) : List ℕ → ℕ → Type 0 where

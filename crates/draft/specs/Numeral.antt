@@ -1,4 +1,4 @@
--- Numbers as the version 1 writer writes them (document 01, "The text line"): decimals and the groups of an IPv6 address.
+-- Numbers as they are written: decimals, and hex as in the groups of an IPv6 address (document 01, "The text line").
 use mathlib.Core.List.{List, [], _∷_, _++_}
 use Prim.Native.Nat.{ℕ, zero, suc, _+_, _-_, _/_, _%_}
 use Prim.Native.Char.{code}
@@ -18,10 +18,14 @@ digitsOf base (suc most) n = pick (ltb n base) (digit n ∷ []) (digitsOf base m
 unfoldable pub numeral : (base n : ℕ) → List ℕ
 numeral base n = digitsOf base (suc n) n
 
--- decimal text, of octets and of ports
 abbrev pub decimalText : ℕ → List ℕ
 decimalText n = numeral 10 n
 
--- a group of an IPv6 address, in hex
-abbrev pub groupText : ℕ → List ℕ
-groupText n = numeral 16 n
+abbrev pub hexText : ℕ → List ℕ
+hexText n = numeral 16 n
+
+-- the texts of numbers, with a separator between two
+abbrev pub joined : (separator : List ℕ) (text : ℕ → List ℕ) → List ℕ → List ℕ
+joined separator text [] = []
+joined separator text (n ∷ []) = text n
+joined separator text (n ∷ m ∷ ns) = text n ++ separator ++ joined separator text (m ∷ ns)
