@@ -1,103 +1,67 @@
 // The program's answer line. No public function has a `requires`.
 use answer::Reading;
 use answer::Verdict;
+use draft::Draft;
+use draft::empty;
+use draft::push;
+use draft::push_decimal;
+use draft::push_word;
 use libc::STDOUT_FILENO;
 use record::Kind;
 use record::Transport;
 ghost use mathlib.Core.Path.{_≡_};
-ghost use Prim.Native.Nat.{_≤_};
-ghost use lib.ListN.{take};
-ghost use Rattle.record.specs.Kinds.{kindWord};
+ghost use Rattle.record.specs.Kinds.{transportWord, kindWord};
+ghost use Rattle.draft.specs.Drafts.{draftOf, appended};
+ghost use Rattle.report.specs.Line.{answerLine};
 
-// A word, at the front of its array.
-pub struct Spelling {
-    pub bytes: [u8; 16],
-    pub size: usize,
+fn push_transport(draft: Draft, transport: Transport) -> Draft
+    ensures { λ r. ⌜ r ≡ appended draft (transportWord transport) ⌝ }
+{
+    match transport {
+        Transport::Stream => push_word(draft, b"-stream"),
+        Transport::Datagram => push_word(draft, b"-datagram"),
+    }
 }
 
 // The word of a kind.
-pub fn word(kind: Kind) -> Spelling
-    ensures { λ r. ⌜ (r .size ≤ 16) × (take (r .size) (r .bytes) ≡ kindWord kind) ⌝ }
+fn push_kind(draft: Draft, kind: Kind) -> Draft
+    ensures { λ r. ⌜ r ≡ appended draft (kindWord kind) ⌝ }
 {
     match kind {
-        Kind::Local => Spelling {
-            bytes: *b"local\0\0\0\0\0\0\0\0\0\0\0",
-            size: 5,
-        },
-        Kind::Unspecified => Spelling {
-            bytes: *b"unspecified\0\0\0\0\0",
-            size: 11,
-        },
-        Kind::Ip4(transport) => match transport {
-            Transport::Stream => Spelling {
-                bytes: *b"ip4-stream\0\0\0\0\0\0",
-                size: 10,
-            },
-            Transport::Datagram => Spelling {
-                bytes: *b"ip4-datagram\0\0\0\0",
-                size: 12,
-            },
-        },
-        Kind::Ip6(transport) => match transport {
-            Transport::Stream => Spelling {
-                bytes: *b"ip6-stream\0\0\0\0\0\0",
-                size: 10,
-            },
-            Transport::Datagram => Spelling {
-                bytes: *b"ip6-datagram\0\0\0\0",
-                size: 12,
-            },
-        },
-        Kind::Unix(transport) => match transport {
-            Transport::Stream => Spelling {
-                bytes: *b"unix-stream\0\0\0\0\0",
-                size: 11,
-            },
-            Transport::Datagram => Spelling {
-                bytes: *b"unix-datagram\0\0\0",
-                size: 13,
-            },
-        },
+        Kind::Local => push_word(draft, b"local"),
+        Kind::Unspecified => push_word(draft, b"unspecified"),
+        Kind::Ip4(transport) => push_transport(push_word(draft, b"ip4"), transport),
+        Kind::Ip6(transport) => push_transport(push_word(draft, b"ip6"), transport),
+        Kind::Unix(transport) => push_transport(push_word(draft, b"unix"), transport),
     }
 }
 
-fn print(text: &[u8]) {
-    io::write_all(STDOUT_FILENO, text);
-}
-
-fn print_front(bytes: [u8; 16], size: usize) {
-    if size <= 16 {
-        print(&bytes[..size]);
-    }
-}
-
-fn print_accepted(length: usize, kind: Kind) {
-    let spelling = word(kind);
-    let bytes = spelling.bytes;
-    let size = spelling.size;
-    print(b"accepted ");
-    io::print_decimal(STDOUT_FILENO, length as u64);
-    print(b" ");
-    print_front(bytes, size);
-    print(b"\n");
-}
-
-fn print_refused(number: u8, place: usize) {
-    print(b"refused ");
-    io::print_decimal(STDOUT_FILENO, number as u64);
-    print(b" at ");
-    io::print_decimal(STDOUT_FILENO, place as u64);
-    print(b"\n");
-}
-
-// Writes `more`, `refused 3 at 13`, or `accepted 47 ip4-stream`, and LF, to standard output.
-pub fn print_reading(reading: Reading) {
+// `more`, `refused 3 at 13`, or `accepted 47 ip4-stream`, and LF: 9 + 20 + 1 + 13 + 1 = 44 bytes at most.
+pub fn answer_line(reading: Reading) -> Draft
+    ensures { λ r. ⌜ r ≡ draftOf (answerLine reading) ⌝ }
+{
     let verdict = reading.verdict;
     let connection = reading.record;
     let kind = connection.kind;
     match verdict {
-        Verdict::Accepted { length, version: _ } => print_accepted(length, kind),
-        Verdict::More => print(b"more\n"),
-        Verdict::Refused { refusal, place } => print_refused(answer::number(refusal), place),
+        Verdict::Accepted { length, version: _ } => {
+            let counted = push_decimal(push_word(empty(), b"accepted "), length as u64);
+            push(push_kind(push(counted, b' '), kind), b'\n')
+        }
+        Verdict::More => push_word(empty(), b"more\n"),
+        Verdict::Refused { refusal, place } => {
+            let number = answer::number(refusal) as u64;
+            let place = place as u64;
+            let numbered = push_decimal(push_word(empty(), b"refused "), number);
+            push(push_decimal(push_word(numbered, b" at "), place), b'\n')
+        }
     }
+}
+
+// Writes the line to standard output, in one piece.
+pub fn print_reading(reading: Reading) {
+    let line = answer_line(reading);
+    let bytes = line.bytes;
+    let n = line.length;
+    io::write_all(STDOUT_FILENO, &bytes[..n]);
 }
