@@ -1,4 +1,4 @@
--- The reader's answers in document 01's terms.
+-- The readers' and the writers' answers in document 01's terms.
 use mathlib.Core.Path.{_≡_}
 use mathlib.Core.List.{List, [], _++_}
 use Prim.Native.Nat.{ℕ, _+_}
@@ -34,7 +34,7 @@ numberOf Family = 7
 numberOf Length = 8
 numberOf Tlv = 9
 
--- the writers' answers
+-- the writers' refusals
 abbrev pub faultNumber : Fault → ℕ
 faultNumber Form = 10
 faultNumber Unused = 11
@@ -42,10 +42,19 @@ faultNumber Area = 12
 faultNumber Size = 13
 faultNumber Room = 14
 
+-- what a writer answers: how many bytes it wrote, or the number of its refusal
+pub data WriteAnswer : Type 0 where
+  wrote : ℕ → WriteAnswer
+  refuses : ℕ → WriteAnswer
+
+abbrev pub toldWritten : Written → WriteAnswer
+toldWritten (Bytes n) = wrote n
+toldWritten (Refuses fault) = refuses (faultNumber fault)
+
 -- "Refusals leave the output untouched; on success bytes past the written length stay"
-abbrev pub outputAfter : (answer : Written) (text output : List ℕ) → List ℕ
-outputAfter (Bytes n) text output = text ++ drop n output
-outputAfter (Refuses fault) text output = output
+abbrev pub outputAfter : WriteAnswer → (text output : List ℕ) → List ℕ
+outputAfter (wrote n) text output = text ++ drop n output
+outputAfter (refuses k) text output = output
 
 -- "the TLV area is the part from 16 + A to the header's end; it is empty for version 1, local, unspecified"
 abbrev pub blockArea : Kind → List ℕ → List ℕ

@@ -1,4 +1,4 @@
-// What a reader answers to lent received bytes, and the answers without a header. No public function has a `requires`.
+// What readers and writers answer, and the answers without a header. No public function has a `requires`.
 use record::Kind;
 use record::Record;
 ghost use mathlib.Core.Path.{_≡_};
@@ -6,7 +6,7 @@ ghost use mathlib.Core.List.{List};
 ghost use Prim.Native.Nat.{ℕ};
 ghost use Rattle.exact.specs.Claim.{more as moreOf, refused as refusedOf};
 ghost use Rattle.record.specs.Records.{bare};
-ghost use Rattle.answer.specs.Answers.{numberOf};
+ghost use Rattle.answer.specs.Answers.{numberOf, faultNumber};
 ghost use Rattle.answer.specs.Sight.{kindOnly, Sees};
 
 // The field that holds the first dead byte: document 01's numbers 1 to 9.
@@ -127,5 +127,18 @@ pub fn number(refusal: Refusal) -> u8
         Refusal::Family => 7,
         Refusal::Length => 8,
         Refusal::Tlv => 9,
+    }
+}
+
+// Document 01's number of a fault.
+pub fn fault_number(fault: Fault) -> u8
+    ensures { λ r. ⌜ r ≡ faultNumber fault ⌝ }
+{
+    match fault {
+        Fault::Form => 10,
+        Fault::Unused => 11,
+        Fault::Area => 12,
+        Fault::Size => 13,
+        Fault::Room => 14,
     }
 }
