@@ -3,7 +3,9 @@ use crate::Kind;
 use crate::Record;
 use crate::address_length;
 ghost use mathlib.Core.Path.{_≡_};
+ghost use mathlib.Core.Bool.{true};
 ghost use lib.ListN.{drop};
+ghost use Rattle.record.specs.Records.{Clean};
 ghost use Rattle.record.specs.Unused.{zeros, cleanPort, cleanTest};
 
 // Whether the bytes from this place on are zero.
@@ -35,7 +37,7 @@ fn clean_port(kind: Kind, port: u16) -> bool
 
 // Whether the address bytes and ports that the record's kind does not use are zero.
 pub fn clean(r: Record) -> bool
-    ensures { λ b. ⌜ b ≡ cleanTest r ⌝ }
+    ensures { λ b. ⌜ (b ≡ cleanTest r) × (b ≡ true → Clean r) × (Clean r → b ≡ true) ⌝ }
 {
     let kind = r.kind;
     let source = r.source;

@@ -1,27 +1,23 @@
--- `clean` puts together what its tests ensure, in the order of `cleanTest`.
+-- `clean` puts together what its tests ensure, in the order of `cleanTest`; of a record in memory that test says what `Clean` says.
 use Prim.Native.Nat.{ℕ}
 use mathlib.Core.Path.{_≡_, sym, ap, _∙_}
+use mathlib.Core.Bool.{Bool, true}
 use borrow.Author.Needs.{needs}
 use lib.ListN.{drop}
 use Rattle.record.specs.declared.Record.{Record}
-use Rattle.record.specs.Unused.{zeros, cleanAddress}
+use Rattle.record.specs.Records.{Clean}
+use Rattle.record.specs.Unused.{zeros, cleanAddress, cleanTest}
+use Rattle.record.specs.UnusedLaws.{clean-test}
+use Rattle.record.proofs.InMemory.{in-memory}
 use Rattle.record.proofs.unused.clean.Statement.{statement}
 use Rattle.record.proofs.unused.clean.Tie as tie
 
-address-length-requires : tie.Need-address-length-requires
-address-length-requires c κs = search needs
-
-zero-from-requires : tie.Need-zero-from-requires
-zero-from-requires c κs = search needs
-
-zero-from-requires-2 : tie.Need-zero-from-requires-2
-zero-from-requires-2 c κs = search needs
-
-clean-port-requires : tie.Need-clean-port-requires
-clean-port-requires c κs = search needs
-
-clean-port-requires-2 : tie.Need-clean-port-requires-2
-clean-port-requires-2 c κs = search needs
+-- the test's result, and what it says
+promise : (start : tie.Start) {b : Bool} → b ≡ cleanTest (start .args .r)
+    → (b ≡ cleanTest (start .args .r)) × (b ≡ true → Clean (start .args .r)) × (Clean (start .args .r) → b ≡ true)
+promise start e =
+    let law = clean-test (start .args .r) (in-memory (start .args .r) _ (start .good .0)) in
+    (e, λ t. law .0 (sym e ∙ t), λ x. e ∙ law .1 x)
 
 module _ (c : tie.After-zero-from) where
   abbrev connection : Record
@@ -39,7 +35,9 @@ module _ (c : tie.After-zero-from2) where
 returns : tie.Need-returns
 returns c =
     let d = c .before .before .before .before in
-    rw (
+    let start = d .before .before .before .before .before .before in
+    promise start
+    (rw (
       first (d .before .before),
       d .before .if1 .taken,
       second d,
@@ -47,35 +45,40 @@ returns c =
       ← (c .before .before .clean-port .ensures),
       c .before .if3 .taken,
     )
-    (c .clean-port2 .ensures)
+    (c .clean-port2 .ensures))
 
 returns-2 : tie.Need-returns-2
 returns-2 c =
     let d = c .before .before .before in
-    rw (
+    let start = d .before .before .before .before .before .before in
+    promise start
+    (rw (
       first (d .before .before),
       d .before .if1 .taken,
       second d,
       c .before .before .if2 .taken,
       ← (c .before .clean-port .ensures),
       c .if3 .left,
-    )
+    ))
 
 returns-3 : tie.Need-returns-3
-returns-3 c = rw (first (c .before .before .before), c .before .before .if1 .taken, second (c .before), c .if2 .left)
+returns-3 c =
+    let d = c .before in
+    promise (d .before .before .before .before .before .before)
+    (rw (first (d .before .before), d .before .if1 .taken, second d, c .if2 .left))
 
 returns-4 : tie.Need-returns-4
-returns-4 c = rw (first (c .before), c .if1 .left)
+returns-4 c = promise (c .before .before .before .before .before) (rw (first (c .before), c .if1 .left))
 
 pub clean-spec : {M : Type 1} → statement M
 clean-spec =
     tie.close
     (tie.spec
-    address-length-requires
-    zero-from-requires
-    zero-from-requires-2
-    clean-port-requires
-    clean-port-requires-2
+    (λ c κs. search needs)
+    (λ c κs. search needs)
+    (λ c κs. search needs)
+    (λ c κs. search needs)
+    (λ c κs. search needs)
     returns
     returns-2
     returns-3
