@@ -1,28 +1,17 @@
 -- For proofs. Fields of a number of bytes that is known: on fewer bytes the verdict is more.
-use mathlib.Core.Path.{_≡_, refl, sym, ap, _∙_, subst}
+use mathlib.Core.Path.{_≡_, refl, sym, ap, _∙_}
 use mathlib.Core.Bool.{Bool, true, false}
-use mathlib.Core.List.{List, [], _∷_}
-use Prim.Native.Nat.{ℕ, suc, _+_, _-_, _≤_, _<_}
+use mathlib.Core.List.{List}
+use Prim.Native.Nat.{ℕ, _+_, _-_, _≤_, _<_}
 use native.Mathlib.Omega.{arith}
-use mir.Syntax.{w8}
-use mir.Val.{Fits}
 use lib.Dec.{ltb}
-use lib.ListN.{length, take, drop, getD, length-drop, take-append-drop}
+use lib.ListN.{length, drop, length-drop}
 use lib.Seq.{drop-drop}
 use borrow.Author.Tests.{ltb-true, ltb-false}
 use Rattle.exact.specs.Claim.{Verdict, accepted, more, AllBytes}
 use Rattle.exact.specs.Field.{after, shift}
 use Rattle.exact.specs.Machine.{shift-shift}
-use Rattle.exact.specs.Parser.{bytes-back}
-
--- ── bytes ──
--- what a slice of bytes holds
-pub bytes-of : (s : List ℕ) → ((i : ℕ) → Fits w8 (getD s i 0)) → AllBytes s
-bytes-of [] h = tt
-bytes-of (c ∷ s) h = (h 0 .fits, bytes-of s (λ i. h (suc i)))
-
-pub bytes-drop : (n : ℕ) (s : List ℕ) → AllBytes s → AllBytes (drop n s)
-bytes-drop n s b = bytes-back (take n s) (drop n s) (subst AllBytes (sym (take-append-drop n s)) b)
+pub use Rattle.record.specs.AddressBlockLaws.{bytes-of, bytes-drop}
 
 -- ── fields of n bytes ──
 module _ {A : Type 0} (v : List ℕ → Verdict A) where

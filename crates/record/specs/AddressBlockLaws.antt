@@ -4,6 +4,8 @@ use mathlib.Core.List.{List, [], _∷_, _++_, append-assoc, append-nil}
 use Prim.Native.Nat.{ℕ, zero, suc, _+_, _-_, _/_, _%_, _≤_, _<_}
 use native.Mathlib.Numerals.{add-one}
 use native.Mathlib.Omega.{arith}
+use mir.Syntax.{w8}
+use mir.Val.{Fits}
 use lib.ListN.{length, take, drop, getD, replicate, length-append, length-drop, take-append-drop}
 use lib.Seq.{length-take-le, take-at, drop-at, take-add, take-length, drop-cons, getD-append-add}
 use Rattle.exact.specs.Claim.{AllBytes}
@@ -49,6 +51,11 @@ block-size r s d =
     simp length-append (omega arith)
 
 -- ── bytes ──
+-- what a slice of bytes holds
+pub bytes-of : (s : List ℕ) → ((i : ℕ) → Fits w8 (getD s i 0)) → AllBytes s
+bytes-of [] h = tt
+bytes-of (c ∷ s) h = (h 0 .fits, bytes-of s (λ i. h (suc i)))
+
 pub bytes-take : (n : ℕ) (s : List ℕ) → AllBytes s → AllBytes (take n s)
 bytes-take n s b = bytes-front (take n s) (drop n s) (subst AllBytes (sym (take-append-drop n s)) b)
 
