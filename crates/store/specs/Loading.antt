@@ -14,6 +14,7 @@ use Rattle.record.specs.Records.{bare}
 use Rattle.record.specs.AddressBlock.{blockRecord}
 use Rattle.store.specs.declared.Flaw.{Flaw}
 use Rattle.store.specs.declared.Flaw.the-variants.{Mark, Version, Code, Length}
+use Rattle.store.specs.declared.Outcome.{Outcome}
 use Rattle.store.specs.declared.Outcome.the-variants.{Accepted, Refused}
 use Rattle.store.specs.declared.Loaded.{Loaded}
 use Rattle.store.specs.Stored.{kindOf}
@@ -25,6 +26,23 @@ flawNumber Version = 16
 flawNumber Code = 17
 flawNumber Length = 18
 
+-- what the reader answers: the record, or the number of why there is none
+pub data LoadAnswer : Type 0 where
+  loads : Record → LoadAnswer
+  noRecord : ℕ → LoadAnswer
+
+abbrev pub toldOutcome : Outcome → Record → LoadAnswer
+toldOutcome Accepted r = loads r
+toldOutcome (Refused flaw) r = noRecord (flawNumber flaw)
+
+abbrev pub toldLoaded : Loaded → LoadAnswer
+toldLoaded x = toldOutcome (x .outcome) (x .«record»)
+
+-- where the bytes are refused, the record is unspecified
+abbrev pub loadedRecord : LoadAnswer → Record
+loadedRecord (loads r) = r
+loadedRecord (noRecord k) = bare Unspecified
+
 -- the first three bytes are the mark
 abbrev pub hasMark : List ℕ → Bool
 hasMark s = eqb (getD s 0 0) 0x43 && eqb (getD s 1 0) 0x53 && eqb (getD s 2 0) 0x52
@@ -33,21 +51,13 @@ hasMark s = eqb (getD s 0 0) 0x43 && eqb (getD s 1 0) 0x53 && eqb (getD s 2 0) 0
 abbrev pub hasVersion : List ℕ → Bool
 hasVersion s = eqb (getD s 3 0) 0x00 && eqb (getD s 4 0) 0x01
 
--- where the bytes are refused, the record is unspecified
-abbrev pub refusedFor : Flaw → Loaded
-refusedFor flaw = record { outcome = Refused flaw; «record» = bare Unspecified }
-
-abbrev pub acceptedAs : Record → Loaded
-acceptedAs r = record { outcome = Accepted; «record» = r }
-
 -- "code 17, total length 18"
-abbrev pub loadKind : Option Kind → List ℕ → Loaded
-loadKind none s = refusedFor Code
-loadKind (some k) s =
-    pick (eqb (length s) (6 + blockLength k)) (acceptedAs (blockRecord k (drop 6 s))) (refusedFor Length)
+abbrev pub loadKind : Option Kind → List ℕ → LoadAnswer
+loadKind none s = noRecord 17
+loadKind (some k) s = pick (eqb (length s) (6 + blockLength k)) (loads (blockRecord k (drop 6 s))) (noRecord 18)
 
 -- "The reader checks in this order: under 6 bytes 18, mark 15, version 16, code 17, total length 18"
-abbrev pub loadAnswer : List ℕ → Loaded
+abbrev pub loadAnswer : List ℕ → LoadAnswer
 loadAnswer s =
-    pick (ltb (length s) 6) (refusedFor Length)
-    (pick (hasMark s) (pick (hasVersion s) (loadKind (kindOf (getD s 5 0)) s) (refusedFor Version)) (refusedFor Mark))
+    pick (ltb (length s) 6) (noRecord 18)
+    (pick (hasMark s) (pick (hasVersion s) (loadKind (kindOf (getD s 5 0)) s) (noRecord 16)) (noRecord 15))

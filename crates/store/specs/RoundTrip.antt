@@ -1,13 +1,13 @@
--- "One record, one byte string, and reading it returns the record" (document 01, "Stored form, version 1").
+-- "One record, one byte string, and reading it returns the record" (document 01, "Stored form, version 1"): that the answers mean what `Meaning` says.
 use mathlib.Core.Path.{_≡_, refl, sym, ap, _∙_, subst}
 use mathlib.Core.Bool.{true}
 use mathlib.Core.List.{List, [], _∷_}
 use mathlib.Core.Option.{Option, some, none}
-use Prim.Native.Nat.{ℕ, _+_, _≤_, _<_}
+use Prim.Native.Nat.{ℕ, _+_, _≤_}
 use native.Mathlib.Omega.{arith}
-use borrow.Author.Tests.{eqb-true, ltb-false, le-leb, leb-true, leb-false}
+use borrow.Author.Tests.{eqb-true, ltb-false, leb-true, leb-false}
 use lib.Dec.{eqb, ltb, leb}
-use lib.ListN.{length, take, drop, getD, length-drop}
+use lib.ListN.{length, drop, getD, length-drop}
 use Rattle.exact.specs.Claim.{AllBytes}
 use Rattle.exact.specs.Pick.{pick-by, both}
 use Rattle.record.specs.declared.Transport.the-variants.{Stream}
@@ -20,15 +20,11 @@ use Rattle.record.specs.Unused.{cleanTest}
 use Rattle.record.specs.UnusedLaws.{clean-test}
 use Rattle.record.specs.AddressBlock.{blockRecord}
 use Rattle.record.specs.AddressBlockLaws.{block-size, bytes-drop, record-again, block-again, block-clean, block-sized}
-use Rattle.answer.specs.declared.Fault.the-variants.{Unused, Room}
-use Rattle.answer.specs.declared.Written.{Written}
-use Rattle.answer.specs.declared.Written.the-variants.{Bytes, Refused}
-use Rattle.answer.specs.Answers.{outputAfter}
+use Rattle.answer.specs.Answers.{WriteAnswer, wrote, refuses, outputAfter}
 use Rattle.answer.specs.OutputLaws.{written-front}
-use Rattle.store.specs.declared.Flaw.{Flaw}
-use Rattle.store.specs.declared.Loaded.{Loaded}
 use Rattle.store.specs.Stored.{kindOf, stored, storeAnswer}
-use Rattle.store.specs.Loading.{hasMark, hasVersion, refusedFor, acceptedAs, loadKind, loadAnswer}
+use Rattle.store.specs.Loading.{LoadAnswer, loads, noRecord, loadedRecord, hasMark, hasVersion, loadKind, loadAnswer}
+use Rattle.store.specs.Meaning.{Means, unused, too-short, written, LoadsBack, Form, LoadMeans, loaded, refused}
 use Rattle.store.specs.Codes.{code-kind, kind-code}
 use Rattle.store.specs.LoadLaws.{answer-accepted}
 
@@ -42,24 +38,18 @@ pub lengths : (6 + blockLength Local ≡ 6) × (6 + blockLength Unspecified ≡ 
 lengths = (refl, refl, refl, refl, refl)
 
 -- "reading it returns the record"
-pub load-stored : (r : Record) → Sized r → Clean r → loadAnswer (stored r) ≡ acceptedAs r
+pub load-stored : (r : Record) → Sized r → Clean r → loadAnswer (stored r) ≡ loads r
 unfolding stored
 load-stored r sized clean =
     let size = stored-length r sized in
-    answer-accepted (stored r) (r .kind) (omega arith) refl refl (code-kind (r .kind)) size ∙ ap acceptedAs (record-again r sized clean)
+    answer-accepted (stored r) (r .kind) (omega arith) refl refl (code-kind (r .kind)) size ∙ ap loads (record-again r sized clean)
 
 -- "One record, one byte string"
 pub stored-one : (r q : Record) → Sized r → Clean r → Sized q → Clean q → stored r ≡ stored q → r ≡ q
 stored-one r q sized clean sized′ clean′ e =
-    ap (λ (x : Loaded). x .«record») (sym (load-stored r sized clean) ∙ ap loadAnswer e ∙ load-stored q sized′ clean′)
+    ap loadedRecord (sym (load-stored r sized clean) ∙ ap loadAnswer e ∙ load-stored q sized′ clean′)
 
 -- ── what is read, written again ──
--- the bytes are the stored form of this record, and it is clean
-pub record Form (s : List ℕ) (r : Record) : Type 0 where
-  pub same : stored r ≡ s
-  pub clean : Clean r
-  pub sized : Sized r
-
 -- the first six bytes, and the rest
 six : (s : List ℕ) → 6 ≤ length s → s ≡ getD s 0 0 ∷ getD s 1 0 ∷ getD s 2 0 ∷ getD s 3 0 ∷ getD s 4 0 ∷ getD s 5 0 ∷ drop 6 s
 six [] h = absurd (omega arith)
@@ -70,12 +60,12 @@ six (a ∷ b ∷ c ∷ d ∷ []) h = absurd (omega arith)
 six (a ∷ b ∷ c ∷ d ∷ e ∷ []) h = absurd (omega arith)
 six (a ∷ b ∷ c ∷ d ∷ e ∷ f ∷ s) h = refl
 
-not-refused : (flaw : Flaw) (r : Record) {A : Type 0} → refusedFor flaw ≡ acceptedAs r → A
-not-refused flaw r e = let o = ap (λ (x : Loaded). x .outcome) e in let z : _≡_ {A = ℕ} 0 1 = cc in absurd (omega arith)
+not-loaded : (k : ℕ) (r : Record) {A : Type 0} → noRecord k ≡ loads r → A
+not-loaded k r e = let z : _≡_ {A = ℕ} 0 1 = cc in absurd (omega arith)
 
 module _ (s : List ℕ) (bytes : AllBytes s) where
-  abbrev Again : Loaded → Type 0
-  Again x = (r : Record) → x ≡ acceptedAs r → Form s r
+  abbrev Again : LoadAnswer → Type 0
+  Again x = (r : Record) → x ≡ loads r → Form s r
 
   module _ (long : 6 ≤ length s) (marked : hasMark s ≡ true) (versioned : hasVersion s ≡ true) where
     kind-again : (k : Kind) → kindOf (getD s 5 0) ≡ some k → length s ≡ 6 + blockLength k → Form s (blockRecord k (drop 6 s))
@@ -98,58 +88,55 @@ module _ (s : List ℕ) (bytes : AllBytes s) where
         record { same = cc; clean = block-clean k b n v; sized = block-sized k b n v }
 
     again-kind : (o : Option Kind) → kindOf (getD s 5 0) ≡ o → Again (loadKind o s)
-    again-kind none code = λ r e. not-refused _ r e
+    again-kind none code = λ r e. not-loaded _ r e
     again-kind (some k) code =
         pick-by Again (eqb (length s) (6 + blockLength k))
-        (λ t r e. subst (Form s) (ap (λ (x : Loaded). x .«record») e) (kind-again k code (eqb-true _ _ t)))
-        (λ t r e. not-refused _ r e)
+        (λ t r e. subst (Form s) (ap loadedRecord e) (kind-again k code (eqb-true _ _ t)))
+        (λ t r e. not-loaded _ r e)
 
   -- whatever is accepted is the stored form of the record that is given
-  pub load-again : (r : Record) → loadAnswer s ≡ acceptedAs r → Form s r
+  pub load-again : (r : Record) → loadAnswer s ≡ loads r → Form s r
   load-again =
-      pick-by Again (ltb (length s) 6) (λ t r e. not-refused _ r e)
+      pick-by Again (ltb (length s) 6) (λ t r e. not-loaded _ r e)
       (λ long.
       pick-by Again (hasMark s)
       (λ marked.
       pick-by Again (hasVersion s)
       (λ versioned. again-kind (ltb-false _ _ long) marked versioned (kindOf (getD s 5 0)) refl)
-      (λ t r e. not-refused _ r e))
-      (λ t r e. not-refused _ r e))
+      (λ t r e. not-loaded _ r e))
+      (λ t r e. not-loaded _ r e))
+
+  -- what the reader answers means what it should
+  pub load-means : LoadMeans s (loadAnswer s)
+  load-means = by (loadAnswer s) refl
+    where
+      by : (a : LoadAnswer) → loadAnswer s ≡ a → LoadMeans s a
+      by (loads r) e =
+          let form = load-again r e in
+          loaded r form (λ q other. stored-one q r (other .sized) (other .clean) (form .sized) (form .clean) (other .same ∙ sym (form .same)))
+      by (noRecord k) e =
+          refused k (λ r form. not-loaded k r (sym e ∙ ap loadAnswer (sym (form .same)) ∙ load-stored r (form .sized) (form .clean)))
 
 -- ── the writer ──
--- what each answer means: "The writer: 11, 14"
-pub data Means (r : Record) (room : ℕ) : Written → Type 0 where
-  unused : (Clean r → ⊥) → Means r room (Refused Unused)
-  too-short : Clean r → room < length (stored r) → Means r room (Refused Room)
-  written : Clean r → length (stored r) ≤ room → Means r room (Bytes (length (stored r)))
-
 pub answer-means : (r : Record) (room : ℕ) → Sized r → Means r room (storeAnswer r room)
 answer-means r room sized =
-    let P : Written → Type 0 = Means r room in
+    let P : WriteAnswer → Type 0 = Means r room in
     pick-by P (cleanTest r)
     (λ test.
     let clean = clean-test r sized .0 test in
     pick-by P (leb (length (stored r)) room) (λ t. written clean (leb-true _ _ t)) (λ t. too-short clean (leb-false _ _ t)))
     (λ test. unused (λ clean. let e = clean-test r sized .1 clean in let z : _≡_ {A = ℕ} 0 1 = cc in omega arith))
 
--- it writes every clean record, where there is room
-pub store-written : (r : Record) (room : ℕ) → Sized r → Clean r → length (stored r) ≤ room → storeAnswer r room ≡ Bytes (length (stored r))
-store-written r room sized clean fits = rw (clean-test r sized .1 clean, le-leb (length (stored r)) room fits)
-
--- whatever the writer accepts, what it wrote is read back as that record, and its length is the answer
-pub store-read : (r : Record) (room n : ℕ) → Sized r → storeAnswer r room ≡ Bytes n → (loadAnswer (stored r) ≡ acceptedAs r) × (length (stored r) ≡ n)
-store-read r room n sized e = by (storeAnswer r room) e (answer-means r room sized)
+-- what it accepts is clean and fits, and the answer is its length
+pub store-written : (r : Record) (room n : ℕ) → Sized r → storeAnswer r room ≡ wrote n → Clean r × (length (stored r) ≡ n) × (n ≤ room)
+store-written r room n sized e = by (storeAnswer r room) e (answer-means r room sized)
   where
-    by : (a : Written) → a ≡ Bytes n → Means r room a → (loadAnswer (stored r) ≡ acceptedAs r) × (length (stored r) ≡ n)
-    by (Refused f) q m = let z : _≡_ {A = ℕ} 0 1 = cc in absurd (omega arith)
-    by (Bytes m) q (written clean fits) = (load-stored r sized clean, cc)
+    by : (a : WriteAnswer) → a ≡ wrote n → Means r room a → Clean r × (length (stored r) ≡ n) × (n ≤ room)
+    by (refuses k) q m = let z : _≡_ {A = ℕ} 0 1 = cc in absurd (omega arith)
+    by (wrote m) q (written clean fits) = let size : length (stored r) ≡ n = cc in (clean, size, omega arith)
 
--- the same of an output: the n bytes that the writer answers are loaded as the record
-abbrev pub LoadsBack : Record → Written → List ℕ → Type 0
-LoadsBack r answer output = (n : ℕ) → answer ≡ Bytes n → loadAnswer (take n output) ≡ acceptedAs r
-
-pub loads-back : (r : Record) (before after : List ℕ) (answer : Written) → Sized r → answer ≡ storeAnswer r (length before)
-    → after ≡ outputAfter answer (stored r) before → LoadsBack r answer after
-loads-back r before after answer sized e output n is =
-    let read = store-read r (length before) n sized (sym e ∙ is) in
-    ap loadAnswer (written-front (stored r) before after answer n is (read .1) output) ∙ read .0
+pub loads-back : (r : Record) (before after : List ℕ) → Sized r → after ≡ outputAfter (storeAnswer r (length before)) (stored r) before
+    → LoadsBack r (storeAnswer r (length before)) after
+loads-back r before after sized output n is =
+    let w = store-written r (length before) n sized is in
+    ap loadAnswer (written-front (stored r) before after (storeAnswer r (length before)) n is (w .1) output) ∙ load-stored r sized (w .0)

@@ -6,21 +6,20 @@ use answer::blank;
 use record::Family;
 use record::Kind;
 use record::Record;
+use record::Transport;
 use record::addresses_of;
 use record::block_length;
 use record::clean;
-use record::family_of;
-use record::kind_byte;
 use record::put;
 use record::put_addresses;
 ghost use mathlib.Core.Path.{_≡_};
 ghost use Prim.Native.Nat.{_≤_};
 ghost use lib.ListN.{length};
 ghost use Rattle.record.specs.Told.{toldFamily};
+ghost use Rattle.answer.specs.Answers.{toldWritten, outputAfter};
 ghost use Rattle.store.specs.Stored.{codeOf, kindOf, stored, storeAnswer};
-ghost use Rattle.store.specs.RoundTrip.{LoadsBack};
-ghost use Rattle.answer.specs.Answers.{outputAfter};
-ghost use Rattle.store.specs.Loading.{hasMark, hasVersion, refusedFor, loadAnswer};
+ghost use Rattle.store.specs.Loading.{flawNumber, toldLoaded, loadedRecord, noRecord, hasMark, hasVersion, loadAnswer};
+ghost use Rattle.store.specs.Meaning.{Means, LoadsBack, LoadMeans};
 
 // Why stored bytes are not a record: document 01's numbers 15 to 18.
 pub enum Flaw {
@@ -42,16 +41,37 @@ pub struct Loaded {
     pub record: Record,
 }
 
-// The code of a kind: local and unspecified have their own, the others byte 13.
+// Document 01's number of a flaw.
+pub fn flaw_number(flaw: Flaw) -> u8
+    ensures { λ r. ⌜ r ≡ flawNumber flaw ⌝ }
+{
+    match flaw {
+        Flaw::Mark => 15,
+        Flaw::Version => 16,
+        Flaw::Code => 17,
+        Flaw::Length => 18,
+    }
+}
+
+// The code of a kind.
 pub fn code_of(kind: Kind) -> u8
     ensures { λ r. ⌜ r ≡ codeOf kind ⌝ }
 {
     match kind {
         Kind::Local => 0x00,
         Kind::Unspecified => 0x01,
-        Kind::Ip4(_) => kind_byte(kind),
-        Kind::Ip6(_) => kind_byte(kind),
-        Kind::Unix(_) => kind_byte(kind),
+        Kind::Ip4(t) => match t {
+            Transport::Stream => 0x11,
+            Transport::Datagram => 0x12,
+        },
+        Kind::Ip6(t) => match t {
+            Transport::Stream => 0x21,
+            Transport::Datagram => 0x22,
+        },
+        Kind::Unix(t) => match t {
+            Transport::Stream => 0x31,
+            Transport::Datagram => 0x32,
+        },
     }
 }
 
@@ -62,32 +82,53 @@ pub fn kind_of(code: u8) -> Family
     match code {
         0x00 => Family::Known(Kind::Local),
         0x01 => Family::Known(Kind::Unspecified),
-        _ => family_of(code),
+        0x11 => Family::Known(Kind::Ip4(Transport::Stream)),
+        0x12 => Family::Known(Kind::Ip4(Transport::Datagram)),
+        0x21 => Family::Known(Kind::Ip6(Transport::Stream)),
+        0x22 => Family::Known(Kind::Ip6(Transport::Datagram)),
+        0x31 => Family::Known(Kind::Unix(Transport::Stream)),
+        0x32 => Family::Known(Kind::Unix(Transport::Datagram)),
+        _ => Family::Unknown,
     }
 }
 
-// Writes the record: how many bytes, or why the output stays as it was.
-pub fn store(connection: Record, out: &mut [u8]) -> Written
-    ensures { λ r. ⌜ (r ≡ storeAnswer connection (length (now (out .entry))))
-        × (now (out .exit) ≡ outputAfter r (stored connection) (now (out .entry)))
-        × LoadsBack connection r (now (out .exit)) ⌝ }
+// What is answered for an output of this size: unused bytes or ports that are not zero (11), an output that is too short (14), or the length.
+fn check(connection: Record, room: usize) -> Written
+    ensures { λ r. ⌜ toldWritten r ≡ storeAnswer connection room ⌝ }
 {
     let kind = connection.kind;
     if !clean(connection) {
         return Written::Refused(Fault::Unused);
     }
     let n = 6 + block_length(kind);
-    if out.len() < n {
+    if room < n {
         return Written::Refused(Fault::Room);
     }
-    let head = [0x43, 0x53, 0x52, 0x00, 0x01, code_of(kind)];
-    put(&head, out, 0);
-    put_addresses(connection, out, 6);
     Written::Bytes(n)
 }
 
+// Writes the record: how many bytes, or why the output stays as it was.
+pub fn store(connection: Record, out: &mut [u8]) -> Written
+    ensures { λ r. ⌜ (toldWritten r ≡ storeAnswer connection (length (now (out .entry))))
+        × (now (out .exit) ≡ outputAfter (storeAnswer connection (length (now (out .entry)))) (stored connection) (now (out .entry)))
+        × Means connection (length (now (out .entry))) (toldWritten r)
+        × LoadsBack connection (toldWritten r) (now (out .exit)) ⌝ }
+{
+    let kind = connection.kind;
+    let answer = check(connection, out.len());
+    match answer {
+        Written::Refused(_) => answer,
+        Written::Bytes(_) => {
+            let head = [0x43, 0x53, 0x52, 0x00, 0x01, code_of(kind)];
+            put(&head, out, 0);
+            put_addresses(connection, out, 6);
+            answer
+        }
+    }
+}
+
 fn refused(flaw: Flaw) -> Loaded
-    ensures { λ r. ⌜ r ≡ refusedFor flaw ⌝ }
+    ensures { λ r. ⌜ (toldLoaded r ≡ noRecord (flawNumber flaw)) × (r .«record» ≡ loadedRecord (noRecord (flawNumber flaw))) ⌝ }
 {
     Loaded {
         outcome: Outcome::Refused(flaw),
@@ -115,7 +156,9 @@ fn has_version(s: &[u8]) -> bool
 
 // Reads a record back, where the bytes are its stored form and no others.
 pub fn load(s: &[u8]) -> Loaded
-    ensures { λ r. ⌜ r ≡ loadAnswer (now (s .entry)) ⌝ }
+    ensures { λ r. ⌜ (toldLoaded r ≡ loadAnswer (now (s .entry)))
+        × (r .«record» ≡ loadedRecord (loadAnswer (now (s .entry))))
+        × LoadMeans (now (s .entry)) (toldLoaded r) ⌝ }
 {
     if s.len() < 6 {
         return refused(Flaw::Length);
