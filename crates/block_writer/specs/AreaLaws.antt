@@ -1,4 +1,4 @@
--- The tests of an area say what they test.
+-- For proofs. The test of an area says what `AreaFits` says.
 use mathlib.Core.Path.{_≡_, ap}
 use mathlib.Core.Bool.{true}
 use mathlib.Core.List.{List, []}
@@ -12,12 +12,7 @@ use Rattle.tlv.specs.Region.{no-bytes}
 use Rattle.tlv.specs.Test.{wellFormed, well-formed-tested}
 use Rattle.record.specs.declared.Kind.{Kind}
 use Rattle.record.specs.declared.Kind.the-variants.{Local, Unspecified, Ip4, Ip6, Unix}
-use Rattle.header.specs.Block.{HasAddresses}
-use Rattle.block_writer.specs.Areas.{areaTest}
-
--- the area may stand beside the kind: "a TLV area is ill-formed, or non-empty beside local or unspecified" is refused
-abbrev pub AreaFits : Kind → List ℕ → Type 0
-AreaFits k area = WellFormed area × ((HasAddresses k → ⊥) → area ≡ [])
+use Rattle.block_writer.specs.Areas.{AreaFits, areaTest}
 
 empty-test : (area : List ℕ) → (eqb (length area) 0 ≡ true) ↔ (WellFormed area × ((⊥ → ⊥) → area ≡ []))
 empty-test area = (

@@ -23,13 +23,10 @@ use Rattle.header.specs.Demand.{Judges}
 use Rattle.header.specs.BlockFields.{blocked}
 use Rattle.header.specs.Exactness.{judges-only}
 use Rattle.header.specs.Facts.{header-length}
-use Rattle.answer.specs.declared.Fault.the-variants.{Unused, Area, Size, Room}
-use Rattle.answer.specs.declared.Written.{Written}
-use Rattle.answer.specs.declared.Written.the-variants.{Bytes, Refused}
-use Rattle.answer.specs.Answers.{outputAfter}
+use Rattle.answer.specs.Answers.{WriteAnswer, wrote, refuses, outputAfter}
 use Rattle.answer.specs.OutputLaws.{written-front}
-use Rattle.block_writer.specs.Areas.{areaTest}
-use Rattle.block_writer.specs.AreaLaws.{AreaFits, area-test}
+use Rattle.block_writer.specs.Areas.{AreaFits, areaTest}
+use Rattle.block_writer.specs.AreaLaws.{area-test}
 use Rattle.block_writer.specs.Written.{blockOf, writtenBlock, CarriedByBlock, blockAnswer}
 use Rattle.block_writer.specs.WholeBlock.{block-of}
 
@@ -55,16 +52,16 @@ module _ (r : Record) (area : List ℕ) (w : CarriedByBlock r area) where
   block-longest = header-length (writtenBlock r area) (blocked r area) block-whole .1
 
 -- what each answer means: "Writers check 10, 11, 12, 13, 14 in this order"; 10 is never given
-pub data Means (r : Record) (area : List ℕ) (room : ℕ) : Written → Type 0 where
-  unused : (Clean r → ⊥) → Means r area room (Refused Unused)
-  ill-formed : Clean r → (AreaFits (r .kind) area → ⊥) → Means r area room (Refused Area)
-  too-large : Clean r → AreaFits (r .kind) area → 65536 ≤ length (blockOf r area) → Means r area room (Refused Size)
-  too-short : CarriedByBlock r area → room < length (writtenBlock r area) → Means r area room (Refused Room)
-  written : CarriedByBlock r area → length (writtenBlock r area) ≤ room → Means r area room (Bytes (length (writtenBlock r area)))
+pub data Means (r : Record) (area : List ℕ) (room : ℕ) : WriteAnswer → Type 0 where
+  unused : (Clean r → ⊥) → Means r area room (refuses 11)
+  ill-formed : Clean r → (AreaFits (r .kind) area → ⊥) → Means r area room (refuses 12)
+  too-large : Clean r → AreaFits (r .kind) area → 65536 ≤ length (blockOf r area) → Means r area room (refuses 13)
+  too-short : CarriedByBlock r area → room < length (writtenBlock r area) → Means r area room (refuses 14)
+  written : CarriedByBlock r area → length (writtenBlock r area) ≤ room → Means r area room (wrote (length (writtenBlock r area)))
 
 pub answer-means : (r : Record) (area : List ℕ) (room : ℕ) → Sized r → Means r area room (blockAnswer r area room)
 answer-means r area room sized =
-    let P : Written → Type 0 = Means r area room in
+    let P : WriteAnswer → Type 0 = Means r area room in
     let never : (b : Bool) → b ≡ false → b ≡ true → ⊥ = λ b e f. let z : _≡_ {A = ℕ} 0 1 = cc in omega arith in
     pick-by P (cleanTest r)
     (λ test.
@@ -84,7 +81,7 @@ answer-means r area room sized =
 
 -- it writes what version 2 can carry, where there is room
 pub block-written : (r : Record) (area : List ℕ) (room : ℕ) → CarriedByBlock r area → length (writtenBlock r area) ≤ room
-    → blockAnswer r area room ≡ Bytes (length (writtenBlock r area))
+    → blockAnswer r area room ≡ wrote (length (writtenBlock r area))
 block-written r area room w fits =
     rw (
       clean-test r (w .sized) .1 (w .clean),
@@ -93,40 +90,40 @@ block-written r area room w fits =
       le-leb (length (writtenBlock r area)) room fits,
     )
 
--- what it accepts is what version 2 can carry, and the answer is the length
-accepts : (r : Record) (area : List ℕ) (room n : ℕ) → Sized r → blockAnswer r area room ≡ Bytes n
-    → CarriedByBlock r area × (length (writtenBlock r area) ≡ n)
-accepts r area room n sized e = by (blockAnswer r area room) e (answer-means r area room sized)
+-- what it accepts is what version 2 can carry, where there is room, and the answer is the length
+pub block-accepted : (r : Record) (area : List ℕ) (room n : ℕ) → Sized r → blockAnswer r area room ≡ wrote n
+    → CarriedByBlock r area × (length (writtenBlock r area) ≡ n) × (n ≤ room)
+block-accepted r area room n sized e = by (blockAnswer r area room) e (answer-means r area room sized)
   where
-    by : (a : Written) → a ≡ Bytes n → Means r area room a → CarriedByBlock r area × (length (writtenBlock r area) ≡ n)
-    by (Refused f) q m = let z : _≡_ {A = ℕ} 0 1 = cc in absurd (omega arith)
-    by (Bytes m) q (written w fits) = (w, cc)
+    by : (a : WriteAnswer) → a ≡ wrote n → Means r area room a → CarriedByBlock r area × (length (writtenBlock r area) ≡ n) × (n ≤ room)
+    by (refuses k) q m = let z : _≡_ {A = ℕ} 0 1 = cc in absurd (omega arith)
+    by (wrote m) q (written w fits) = let size : length (writtenBlock r area) ≡ n = cc in (w, size, omega arith)
 
 -- the whole demand: whatever the writer accepts, what it wrote is read back as that record and that area, with any bytes behind it, and its length
 -- is the answer
-pub block-demand : (r : Record) (area : List ℕ) (room n : ℕ) → Sized r → blockAnswer r area room ≡ Bytes n
+pub block-demand : (r : Record) (area : List ℕ) (room n : ℕ) → Sized r → blockAnswer r area room ≡ wrote n
     → (t : List ℕ) → Judges (accepted (blocked r area) n) (writtenBlock r area ++ t)
 block-demand r area room n sized e t =
-    let a = accepts r area room n sized e in
+    let a = block-accepted r area room n sized e in
     subst (λ (m : ℕ). Judges (accepted (blocked r area) m) (writtenBlock r area ++ t)) (a .1) (block-read r area (a .0) t)
 
 -- the same of an output: the n bytes that the writer answers, with any bytes behind them, are accepted with the record and the area
-abbrev pub ReadsBack : Record → List ℕ → Written → List ℕ → Type 0
-ReadsBack r area answer output = (n : ℕ) → answer ≡ Bytes n → (t : List ℕ) → Judges (accepted (blocked r area) n) (take n output ++ t)
+abbrev pub ReadsBack : Record → List ℕ → WriteAnswer → List ℕ → Type 0
+ReadsBack r area answer output = (n : ℕ) → answer ≡ wrote n → (t : List ℕ) → Judges (accepted (blocked r area) n) (take n output ++ t)
 
-pub reads-back : (r : Record) (area before after : List ℕ) (answer : Written) → Sized r → answer ≡ blockAnswer r area (length before)
-    → after ≡ outputAfter answer (writtenBlock r area) before → ReadsBack r area answer after
-reads-back r area before after answer sized e output n is t =
-    let answered : blockAnswer r area (length before) ≡ Bytes n = sym e ∙ is in
-    let size = accepts r area (length before) n sized answered .1 in
-    let front = written-front (writtenBlock r area) before after answer n is size output in
-    subst (λ (f : List ℕ). Judges (accepted (blocked r area) n) (f ++ t)) (sym front) (block-demand r area (length before) n sized answered t)
+pub reads-back : (r : Record) (area before after : List ℕ) → Sized r
+    → after ≡ outputAfter (blockAnswer r area (length before)) (writtenBlock r area) before
+    → ReadsBack r area (blockAnswer r area (length before)) after
+reads-back r area before after sized output n is t =
+    let size = block-accepted r area (length before) n sized is .1 in
+    let front = written-front (writtenBlock r area) before after (blockAnswer r area (length before)) n is size output in
+    subst (λ (f : List ℕ). Judges (accepted (blocked r area) n) (f ++ t)) (sym front) (block-demand r area (length before) n sized is t)
 
 -- so the TLV list that is read is the one that was written
-pub block-tlvs : (r : Record) (area : List ℕ) (room n : ℕ) → Sized r → blockAnswer r area room ≡ Bytes n
+pub block-tlvs : (r : Record) (area : List ℕ) (room n : ℕ) → Sized r → blockAnswer r area room ≡ wrote n
     → (t : List ℕ) (h : Header) (m : ℕ) → Judges (accepted h m) (writtenBlock r area ++ t)
     → (tlvs again : List Tlv) → AreaOf area tlvs → AreaOf (h .area) again → again ≡ tlvs
 block-tlvs r area room n sized e t h m x tlvs again here there =
-    let only = block-only r area (accepts r area room n sized e .0) t (accepted h m) x in
+    let only = block-only r area (block-accepted r area room n sized e .0) t (accepted h m) x in
     let same : h ≡ blocked r area = cc in
     area-one area again tlvs (subst (λ (g : Header). AreaOf (g .area) again) same there) here

@@ -15,9 +15,7 @@ use Rattle.record.specs.Records.{Clean, Sized}
 use Rattle.record.specs.Unused.{cleanTest}
 use Rattle.record.specs.AddressBlock.{addressBlock}
 use Rattle.header.specs.Block.{signature, LOCAL, PROXY, HasAddresses}
-use Rattle.answer.specs.declared.Fault.the-variants.{Unused, Area, Size, Room}
-use Rattle.answer.specs.declared.Written.{Written}
-use Rattle.answer.specs.declared.Written.the-variants.{Bytes, Refused}
+use Rattle.answer.specs.Answers.{WriteAnswer, wrote, refuses}
 use Rattle.block_writer.specs.Areas.{areaTest}
 
 -- byte 12: "local as 20", the others as 21
@@ -49,12 +47,12 @@ pub record CarriedByBlock (r : Record) (area : List ℕ) : Type 0 where
   pub small : length (blockOf r area) < 65536
 
 -- "Writers check 10, 11, 12, 13, 14 in this order; 10 is version 1's only"
-abbrev pub blockAnswer : Record → (area : List ℕ) (room : ℕ) → Written
+abbrev pub blockAnswer : Record → (area : List ℕ) (room : ℕ) → WriteAnswer
 blockAnswer r area room =
     pick (cleanTest r)
     (pick (areaTest (r .kind) area)
     (pick (ltb (length (blockOf r area)) 65536)
-    (pick (leb (length (writtenBlock r area)) room) (Bytes (length (writtenBlock r area))) (Refused Room))
-    (Refused Size))
-    (Refused Area))
-    (Refused Unused)
+    (pick (leb (length (writtenBlock r area)) room) (wrote (length (writtenBlock r area))) (refuses 14))
+    (refuses 13))
+    (refuses 12))
+    (refuses 11)

@@ -12,29 +12,28 @@ use Rattle.record.specs.Records.{Sized}
 use Rattle.record.specs.Unused.{cleanTest}
 use Rattle.record.specs.AddressBlock.{addressBlock}
 use Rattle.record.specs.AddressBlockLaws.{block-size}
-use Rattle.answer.specs.declared.Fault.the-variants.{Unused, Area, Size, Room}
-use Rattle.answer.specs.declared.Written.the-variants.{Bytes, Refused}
+use Rattle.answer.specs.Answers.{wrote, refuses}
 use Rattle.block_writer.specs.Areas.{areaTest}
 use Rattle.block_writer.specs.Written.{blockOf, writtenBlock, blockAnswer}
 
 -- ── the answers, by the tests that were made ──
 module _ (r : Record) (area : List ℕ) (room : ℕ) where
-  pub answer-unused : cleanTest r ≡ false → Refused Unused ≡ blockAnswer r area room
+  pub answer-unused : cleanTest r ≡ false → refuses 11 ≡ blockAnswer r area room
   answer-unused e = rw e
 
-  pub answer-area : cleanTest r ≡ true → areaTest (r .kind) area ≡ false → Refused Area ≡ blockAnswer r area room
+  pub answer-area : cleanTest r ≡ true → areaTest (r .kind) area ≡ false → refuses 12 ≡ blockAnswer r area room
   answer-area e f = rw (e, f)
 
   module _ (clean : cleanTest r ≡ true) (fits : areaTest (r .kind) area ≡ true) where
-    pub answer-size : 65536 ≤ length (blockOf r area) → Refused Size ≡ blockAnswer r area room
+    pub answer-size : 65536 ≤ length (blockOf r area) → refuses 13 ≡ blockAnswer r area room
     answer-size h = rw (clean, fits, le-ltb (length (blockOf r area)) 65536 h)
 
-    pub answer-room : length (blockOf r area) < 65536 → room < length (writtenBlock r area) → Refused Room ≡ blockAnswer r area room
+    pub answer-room : length (blockOf r area) < 65536 → room < length (writtenBlock r area) → refuses 14 ≡ blockAnswer r area room
     answer-room h g = rw (clean, fits, lt-ltb (length (blockOf r area)) 65536 h, lt-leb (length (writtenBlock r area)) room g)
 
-    pub answer-bytes : (n : ℕ) → n ≡ length (writtenBlock r area) → length (blockOf r area) < 65536 → n ≤ room → Bytes n ≡ blockAnswer r area room
+    pub answer-bytes : (n : ℕ) → n ≡ length (writtenBlock r area) → length (blockOf r area) < 65536 → n ≤ room → wrote n ≡ blockAnswer r area room
     answer-bytes n e h g =
-        ap Bytes e
+        ap wrote e
         ∙ rw (clean, fits, lt-ltb (length (blockOf r area)) 65536 h, le-leb (length (writtenBlock r area)) room (omega arith))
 
 -- ── lengths ──

@@ -13,10 +13,10 @@ ghost use mathlib.Core.Path.{_≡_};
 ghost use Prim.Native.Nat.{_<_};
 ghost use lib.ListN.{length};
 ghost use Rattle.record.specs.Placed.{placed};
+ghost use Rattle.answer.specs.Answers.{toldWritten, outputAfter};
 ghost use Rattle.block_writer.specs.Areas.{areaTest};
 ghost use Rattle.block_writer.specs.Written.{commandOf, headOf, writtenBlock, blockAnswer};
-ghost use Rattle.block_writer.specs.Demand.{ReadsBack};
-ghost use Rattle.answer.specs.Answers.{outputAfter};
+ghost use Rattle.block_writer.specs.Demand.{Means, ReadsBack};
 
 // Whether the area may stand beside the kind: TLVs fill it, and it is empty beside local and unspecified.
 fn area_fits(kind: Kind, area: &[u8]) -> bool
@@ -70,11 +70,10 @@ fn put_head(kind: Kind, n: usize, out: &mut [u8])
     put(&head, out, 0);
 }
 
-// Writes the record with the TLV area behind its address block: how many bytes, or why the output stays as it was.
-pub fn write_block(connection: Record, area: &[u8], out: &mut [u8]) -> Written
-    ensures { λ r. ⌜ (r ≡ blockAnswer connection (now (area .entry)) (length (now (out .entry))))
-        × (now (out .exit) ≡ outputAfter r (writtenBlock connection (now (area .entry))) (now (out .entry)))
-        × ReadsBack connection (now (area .entry)) r (now (out .exit)) ⌝ }
+// What is answered for an area and an output of this size: unused bytes or ports that are not zero (11), an area that may not stand there (12), a block
+// that is too long (13), an output that is too short (14), or the length.
+fn check(connection: Record, area: &[u8], room: usize) -> Written
+    ensures { λ r. ⌜ toldWritten r ≡ blockAnswer connection (now (area .entry)) room ⌝ }
 {
     let kind = connection.kind;
     if !clean(connection) {
@@ -88,11 +87,30 @@ pub fn write_block(connection: Record, area: &[u8], out: &mut [u8]) -> Written
         return Written::Refused(Fault::Size);
     }
     let n = block + area.len();
-    if out.len() < 16 + n {
+    if room < 16 + n {
         return Written::Refused(Fault::Room);
     }
-    put_head(kind, n, out);
-    put_addresses(connection, out, 16);
-    put(area, out, 16 + block);
     Written::Bytes(16 + n)
+}
+
+// Writes the record with the TLV area behind its address block: how many bytes, or why the output stays as it was.
+pub fn write_block(connection: Record, area: &[u8], out: &mut [u8]) -> Written
+    ensures { λ r. ⌜ (toldWritten r ≡ blockAnswer connection (now (area .entry)) (length (now (out .entry))))
+        × (now (out .exit) ≡ outputAfter (blockAnswer connection (now (area .entry)) (length (now (out .entry))))
+        (writtenBlock connection (now (area .entry))) (now (out .entry)))
+        × Means connection (now (area .entry)) (length (now (out .entry))) (toldWritten r)
+        × ReadsBack connection (now (area .entry)) (toldWritten r) (now (out .exit)) ⌝ }
+{
+    let kind = connection.kind;
+    let answer = check(connection, area, out.len());
+    match answer {
+        Written::Refused(_) => answer,
+        Written::Bytes(_) => {
+            let block = block_length(kind);
+            put_head(kind, block + area.len(), out);
+            put_addresses(connection, out, 16);
+            put(area, out, 16 + block);
+            answer
+        }
+    }
 }

@@ -1,29 +1,24 @@
--- `write_block` answers by its tests in the order of `blockAnswer`, and puts the head, the address block and the area one behind the other.
-use Prim.Native.Nat.{ℕ, _+_, _≤_}
-use mathlib.Core.Path.{_≡_, refl, sym, ap, _∙_}
-use mathlib.Core.Bool.{true}
+-- What is written is what `check` answers. A refusal leaves the output as it was; else the head, the address block and the area stand one behind the other.
+use Prim.Native.Nat.{ℕ, _+_, _≤_, _<_}
+use mathlib.Core.Path.{_≡_, sym, ap, _∙_, subst}
 use mathlib.Core.List.{List, _++_, append-assoc}
 use native.Mathlib.Omega.{arith}
 use borrow.Author.Needs.{needs}
-use borrow.Author.Tests.{not-true, not-false}
 use denote.Ref.{now}
 use lib.ListN.{length, drop, length-append}
 use Rattle.record.specs.declared.Record.{Record}
 use Rattle.record.specs.Kinds.{blockLength}
 use Rattle.record.specs.Records.{Sized}
-use Rattle.record.specs.Unused.{cleanTest}
 use Rattle.record.specs.AddressBlock.{addressBlock}
 use Rattle.record.specs.AddressBlockLaws.{block-size}
 use Rattle.record.specs.Placed.{placed}
 use Rattle.record.specs.PlacedLaws.{placed-then, placed-start}
 use Rattle.record.proofs.InMemory.{in-memory}
-use Rattle.header.specs.BlockFields.{block-small}
-use Rattle.block_writer.specs.Areas.{areaTest}
-use Rattle.answer.specs.declared.Written.{Written}
-use Rattle.answer.specs.Answers.{outputAfter}
-use Rattle.block_writer.specs.Written.{headOf, blockOf, writtenBlock, blockAnswer}
-use Rattle.block_writer.specs.Demand.{ReadsBack, reads-back}
-use Rattle.block_writer.specs.WrittenLaws.{answer-unused, answer-area, answer-size, answer-room, answer-bytes, block-length, written-length}
+use Rattle.answer.specs.Answers.{WriteAnswer, toldWritten, outputAfter}
+use Rattle.answer.specs.OutputLaws.{output-refused, output-written}
+use Rattle.block_writer.specs.Written.{headOf, blockOf, writtenBlock, CarriedByBlock, blockAnswer}
+use Rattle.block_writer.specs.WrittenLaws.{block-length}
+use Rattle.block_writer.specs.Demand.{Means, answer-means, block-accepted, ReadsBack, reads-back}
 use Rattle.block_writer.proofs.write_block.Statement.{statement}
 use Rattle.block_writer.proofs.write_block.Tie as tie
 
@@ -38,156 +33,110 @@ joined h a b d d₁ d₂ d₃ i j n ei ej en room e₁ e₂ e₃ =
     placed-start (h ++ a ++ b) d d₃ n three (omega arith) room ∙ ap (λ (t : List ℕ). t ++ drop n d) (append-assoc h a b)
 
 module _ (r : Record) (area : List ℕ) (sized : Sized r) where
-  whole : (n : ℕ) (d d₁ d₂ d₃ : List ℕ) → n ≡ blockLength (r .kind) → 16 + (n + length area) ≤ length d
-      → d₁ ≡ placed (headOf (r .kind) (n + length area)) 0 d → d₂ ≡ placed (addressBlock r) 16 d₁ → d₃ ≡ placed area (16 + n) d₂
-      → d₃ ≡ writtenBlock r area ++ drop (16 + (n + length area)) d
+  whole : (k n : ℕ) (d d₁ d₂ d₃ : List ℕ) → k ≡ blockLength (r .kind) → n ≡ length (writtenBlock r area) → n ≤ length d
+      → d₁ ≡ placed (headOf (r .kind) (k + length area)) 0 d → d₂ ≡ placed (addressBlock r) 16 d₁ → d₃ ≡ placed area (16 + k) d₂
+      → d₃ ≡ writtenBlock r area ++ drop n d
   unfolding writtenBlock
-  whole n d d₁ d₂ d₃ e room e₁ e₂ e₃ =
+  whole k n d d₁ d₂ d₃ e size room e₁ e₂ e₃ =
       let b = block-size r (sized .source) (sized .destination) in
       let l = block-length r area sized in
-      let all : n + length area ≡ length (blockOf r area) = omega arith in
-      joined (headOf (r .kind) (length (blockOf r area))) (addressBlock r) area d d₁ d₂ d₃ 16 (16 + n) (16 + (n + length area)) (omega arith)
-      (omega arith) (omega arith) room (e₁ ∙ ap (λ (m : ℕ). placed (headOf (r .kind) m) 0 d) all) e₂ e₃
+      let all : k + length area ≡ length (blockOf r area) = omega arith in
+      joined (headOf (r .kind) (length (blockOf r area))) (addressBlock r) area d d₁ d₂ d₃ 16 (16 + k) n (omega arith) (omega arith) (omega arith) room
+      (e₁ ∙ ap (λ (m : ℕ). placed (headOf (r .kind) m) 0 d) all) e₂ e₃
 
-clean-requires : tie.Need-clean-requires
-clean-requires c κs = search needs
+module _ (c : tie.After-check) where
+  abbrev start : tie.Start
+  start = c .before .before .before
 
-module _ (c : tie.After-clean) where
   abbrev connection : Record
-  connection = c .before .before .before .args .connection
+  connection = start .args .connection
 
   abbrev area : List ℕ
-  area = now (c .before .before .before .args .area)
+  area = now (start .args .area)
 
-  abbrev room : ℕ
-  room = length (now (c .before .before .before .args .out))
+  abbrev out : List ℕ
+  out = now (start .args .out)
+
+  abbrev text : List ℕ
+  text = writtenBlock connection area
+
+  abbrev answer : WriteAnswer
+  answer = blockAnswer connection area (length out)
 
   sized : Sized connection
-  sized = in-memory connection _ (c .before .before .before .good .0)
+  sized = in-memory connection _ (start .good .0)
 
--- an answer and an output as defined are what is promised, since the record is one in memory
-promise : (c : tie.After-clean) {answer : Written} {after : List ℕ} → answer ≡ blockAnswer (connection c) (area c) (room c)
-    → after ≡ outputAfter answer (writtenBlock (connection c) (area c)) (now (c .before .before .before .args .out))
-    → (answer ≡ blockAnswer (connection c) (area c) (room c))
-    × (after ≡ outputAfter answer (writtenBlock (connection c) (area c)) (now (c .before .before .before .args .out)))
-    × ReadsBack (connection c) (area c) answer after
-promise c {answer} {after} e o =
-    (e, o, reads-back (connection c) (area c) (now (c .before .before .before .args .out)) after answer (sized c) e o)
+  -- an output as defined is what is promised, since the record is one in memory
+  promise : (after : List ℕ) → after ≡ outputAfter answer text out
+      → (toldWritten (c .check .result) ≡ answer) × (after ≡ outputAfter answer text out)
+      × Means connection area (length out) (toldWritten (c .check .result)) × ReadsBack connection area (toldWritten (c .check .result)) after
+  promise after o =
+      let e = c .check .ensures in (
+        e,
+        o,
+        subst (Means connection area (length out)) (sym e) (answer-means connection area (length out) sized),
+        subst (λ (a : WriteAnswer). ReadsBack connection area a after) (sym e) (reads-back connection area out after sized o),
+      )
 
 returns : tie.Need-returns
-returns c = promise (c .before) (answer-unused (connection (c .before)) _ _ (sym (c .before .clean .ensures) ∙ not-true _ (c .if1 .taken))) refl
+returns c =
+    let d = c .before .before in
+    promise d (out d) (output-refused (text d) (out d) (d .check .ensures) _ (c .enum-told .given .1))
 
-area-fits-requires : tie.Need-area-fits-requires
-area-fits-requires c κs = search needs
+module _ (c : tie.After-block-length) where
+  abbrev checked : tie.After-check
+  checked = c .before .before .before
 
-cleaned : (c : tie.Else1) → cleanTest (connection (c .before)) ≡ true
-cleaned c = sym (c .before .clean .ensures) ∙ not-false _ (c .if1 .left)
+  abbrev n : ℕ
+  n = c .before .enum-told2 .given .0 .0
+
+  -- what is written is what version 2 can carry, and fits
+  carried : CarriedByBlock (connection checked) (area checked) × (length (text checked) ≡ n) × (n ≤ length (out checked))
+  carried =
+      block-accepted (connection checked) (area checked) (length (out checked)) n (sized checked)
+      (sym (checked .check .ensures) ∙ ap toldWritten (c .before .enum-told2 .given .1))
+
+  small : c .block-length .result + length (area checked) < 65536
+  small =
+      let l = block-length (connection checked) (area checked) (sized checked) in
+      let e = c .block-length .ensures in
+      let h = carried .0 .small in
+      omega arith
+
+add-put-head : tie.Need-add-put-head
+add-put-head c = let h = small c in omega arith
+
+put-head-requires : tie.Need-put-head-requires
+put-head-requires c κs = small (c .before)
+
+add-put : tie.Need-add-put
+add-put c = let h = small (c .before .before .before .before .before .before .before .before .before) in omega arith
 
 returns-2 : tie.Need-returns-2
 returns-2 c =
-    let first = c .before .before .before in
-    promise first (answer-area (connection first) _ _ (cleaned (c .before .before)) (sym (c .before .area-fits .ensures) ∙ not-true _ (c .if2 .taken))) refl
-
-block-length-requires : tie.Need-block-length-requires
-block-length-requires c κs = search needs
-
-module _ (c : tie.After-block-length) where
-  abbrev first : tie.After-clean
-  first = c .before .before .before .before
-
-  fitting : areaTest (connection first .kind) (area first) ≡ true
-  fitting = sym (c .before .before .area-fits .ensures) ∙ not-false _ (c .before .if2 .left)
-
-  few : c .block-length .result ≤ 253
-  few = let h = block-small (connection first .kind) in let e = c .block-length .ensures in omega arith
-
-  -- the sizes that the code computes are those of the block and of what is written
-  in-block : length (blockOf (connection first) (area first)) ≡ c .block-length .result + length (area first)
-  in-block = let l = block-length (connection first) (area first) (sized first) in let e = c .block-length .ensures in omega arith
-
-  in-all : length (writtenBlock (connection first) (area first)) ≡ 16 + (c .block-length .result + length (area first))
-  in-all = let l = written-length (connection first) (area first) (sized first) in let e = c .block-length .ensures in omega arith
-
-sub-if3 : tie.Need-sub-if3
-sub-if3 c = let h = few c in omega arith
-
-returns-3 : tie.Need-returns-3
-returns-3 c =
-    let d = c .before in
-    let h = few d in
-    let l = in-block d in
-    promise (first d) (answer-size (connection (first d)) (area (first d)) _ (cleaned (d .before .before .before)) (fitting d) (omega arith)) refl
-
-add-n : tie.Need-add-n
-add-n c = search needs
-
-add-if4 : tie.Need-add-if4
-add-if4 c = let h = few (c .before) in omega arith
-
-returns-4 : tie.Need-returns-4
-returns-4 c =
-    let d = c .before .before in
-    let h = few d in
-    let l = in-block d in
-    let w = in-all d in
-    promise (first d)
-    (answer-room (connection (first d)) (area (first d)) _ (cleaned (d .before .before .before)) (fitting d) (omega arith) (omega arith)) refl
-
-put-head-requires : tie.Need-put-head-requires
-put-head-requires c κs = let h = few (c .before .before .before) in omega arith
-
-put-addresses-requires : tie.Need-put-addresses-requires
-put-addresses-requires c κs = search needs
-
-add-put : tie.Need-add-put
-add-put c = search needs
-
-put-requires : tie.Need-put-requires
-put-requires c κs = search needs
-
-add-t11 : tie.Need-add-t11
-add-t11 c = search needs
-
-same-length : tie.Need-same-length
-same-length c = search needs
-
-returns-5 : tie.Need-returns-5
-returns-5 c =
     let c₃ = c .before .before in
     let c₂ = c₃ .before .before .before .before in
     let c₁ = c₂ .before .before .before .before in
-    let fits = c₁ .before .before .if4 .left in
-    let small = c₁ .before .before .before .if3 .left in
-    let d = c₁ .before .before .before .before in
-    let h = few d in
-    let l = in-block d in
-    let w = in-all d in
-    let x = connection (first d) in
-    let n = d .block-length .result in
-    promise (first d)
-    (answer-bytes x (area (first d)) _ (cleaned (d .before .before .before)) (fitting d) (16 + (n + length (area (first d)))) (omega arith) (omega arith)
-    (omega arith))
-    (whole x (area (first d)) (sized (first d)) n _ _ _ _ (d .block-length .ensures) (omega arith) (c₁ .put-head .ensures) (c₂ .put-addresses .ensures)
-    (c₃ .put .ensures))
+    let sizes = c₁ .before .before in
+    let d = checked sizes in
+    promise d _
+    (whole (connection d) (area d) (sized d) (sizes .block-length .result) (n sizes) _ _ _ _ (sizes .block-length .ensures) (sym (carried sizes .1))
+    (carried sizes .2) (c₁ .put-head .ensures) (c₂ .put-addresses .ensures) (c₃ .put .ensures)
+    ∙ output-written (text d) (out d) (d .check .ensures) (n sizes) (sizes .before .enum-told2 .given .1))
 
 pub write-block-spec : {M : Type 1} → statement M
 write-block-spec =
     tie.close
     (tie.spec
-    clean-requires
-    returns
-    area-fits-requires
-    returns-2
-    block-length-requires
-    sub-if3
-    returns-3
-    add-n
-    add-if4
-    returns-4
+    (λ c κs. search needs)
+    (λ c. search needs)
+    (λ c. search needs)
+    (λ c κs. search needs)
+    add-put-head
     put-head-requires
-    put-addresses-requires
+    (λ c κs. search needs)
     add-put
-    put-requires
-    add-t11
-    same-length
-    returns-5)
+    (λ c κs. search needs)
+    returns
+    (λ c. search needs)
+    returns-2)
