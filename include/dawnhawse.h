@@ -189,13 +189,12 @@ uint32_t dawnhawse_lookup(const uint8_t *area, size_t area_len, uint8_t wanted, 
  *   out, out_len                 the output, of which DAWNHAWSE_LONGEST_V1 bytes are enough; bytes past the line stay as they were
  *   numbers, numbers_len         at least DAWNHAWSE_NUMBERS elements
  *
- * Answers, the first that applies
- *   DAWNHAWSE_NO_ROOM           numbers has fewer than 4 elements; both buffers are as they were
- *   DAWNHAWSE_WRONG_SIZE        connection has not 221 bytes; both buffers are as they were
- *   DAWNHAWSE_UNKNOWN_KIND      its kind code is unknown; both buffers are as they were
- *   DAWNHAWSE_NO_FORM           version 1 does not carry the kind; the output is as it was; numbers: 0, 0, 0, 0
- *   DAWNHAWSE_UNUSED_NOT_ZERO   the same, for an unused byte or port that is not zero
- *   DAWNHAWSE_NO_ROOM           the same, for an output that is shorter than the line
+ * Answers, the first that applies; a refusal leaves both buffers as they were
+ *   DAWNHAWSE_WRONG_SIZE        connection has not 221 bytes
+ *   DAWNHAWSE_UNKNOWN_KIND      its kind code is unknown
+ *   DAWNHAWSE_NO_FORM           version 1 does not carry the kind
+ *   DAWNHAWSE_UNUSED_NOT_ZERO   an unused byte or port is not zero
+ *   DAWNHAWSE_NO_ROOM           the output is shorter than the line, or numbers has fewer than 4 elements
  *   DAWNHAWSE_WRITTEN           the line is written; numbers: its length, 0, 0, 0
  */
 uint32_t dawnhawse_write_v1(const uint8_t *connection, size_t connection_len, uint8_t *out, size_t out_len,
@@ -209,14 +208,13 @@ uint32_t dawnhawse_write_v1(const uint8_t *connection, size_t connection_len, ui
  *   out, out_len                 the output, of which DAWNHAWSE_LONGEST_HEADER bytes are enough; bytes past the header stay
  *   numbers, numbers_len         at least DAWNHAWSE_NUMBERS elements
  *
- * Answers, the first that applies
- *   DAWNHAWSE_NO_ROOM           numbers has fewer than 4 elements; both buffers are as they were
- *   DAWNHAWSE_WRONG_SIZE        connection has not 221 bytes; both buffers are as they were
- *   DAWNHAWSE_UNKNOWN_KIND      its kind code is unknown; both buffers are as they were
- *   DAWNHAWSE_UNUSED_NOT_ZERO   an unused byte or port is not zero; the output is as it was; numbers: 0, 0, 0, 0
- *   DAWNHAWSE_ILL_FORMED        the same, for an area that TLVs do not fill, or that is not empty beside local or unspecified
- *   DAWNHAWSE_TOO_LARGE         the same, for an address block and an area of more than 65535 bytes
- *   DAWNHAWSE_NO_ROOM           the same, for an output that is shorter than the header
+ * Answers, the first that applies; a refusal leaves both buffers as they were
+ *   DAWNHAWSE_WRONG_SIZE        connection has not 221 bytes
+ *   DAWNHAWSE_UNKNOWN_KIND      its kind code is unknown
+ *   DAWNHAWSE_UNUSED_NOT_ZERO   an unused byte or port is not zero
+ *   DAWNHAWSE_ILL_FORMED        TLVs do not fill the area, or it is not empty beside local or unspecified
+ *   DAWNHAWSE_TOO_LARGE         address block and area have more than 65535 bytes
+ *   DAWNHAWSE_NO_ROOM           the output is shorter than the header, or numbers has fewer than 4 elements
  *   DAWNHAWSE_WRITTEN           the header is written; numbers: its length, 0, 0, 0
  */
 uint32_t dawnhawse_write_v2(const uint8_t *connection, size_t connection_len, const uint8_t *area, size_t area_len,
@@ -229,12 +227,11 @@ uint32_t dawnhawse_write_v2(const uint8_t *connection, size_t connection_len, co
  *   out, out_len                 the output, of which DAWNHAWSE_LONGEST_STORED bytes are enough; bytes past the form stay
  *   numbers, numbers_len         at least DAWNHAWSE_NUMBERS elements
  *
- * Answers, the first that applies
- *   DAWNHAWSE_NO_ROOM           numbers has fewer than 4 elements; both buffers are as they were
- *   DAWNHAWSE_WRONG_SIZE        connection has not 221 bytes; both buffers are as they were
- *   DAWNHAWSE_UNKNOWN_KIND      its kind code is unknown; both buffers are as they were
- *   DAWNHAWSE_UNUSED_NOT_ZERO   an unused byte or port is not zero; the output is as it was; numbers: 0, 0, 0, 0
- *   DAWNHAWSE_NO_ROOM           the same, for an output that is shorter than the form
+ * Answers, the first that applies; a refusal leaves both buffers as they were
+ *   DAWNHAWSE_WRONG_SIZE        connection has not 221 bytes
+ *   DAWNHAWSE_UNKNOWN_KIND      its kind code is unknown
+ *   DAWNHAWSE_UNUSED_NOT_ZERO   an unused byte or port is not zero
+ *   DAWNHAWSE_NO_ROOM           the output is shorter than the form, or numbers has fewer than 4 elements
  *   DAWNHAWSE_WRITTEN           the form is written; numbers: its length, 6, 18, 42 or 222, then 0, 0, 0
  */
 uint32_t dawnhawse_store(const uint8_t *connection, size_t connection_len, uint8_t *out, size_t out_len,

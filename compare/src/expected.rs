@@ -71,19 +71,14 @@ pub fn lookup(area: &[u8], wanted: u8, limit: usize, numbers_len: usize) -> Left
     told(answer, [found.count as u64, u64::from(wanted), found.start as u64, found.length as u64], numbers_len, Vec::new())
 }
 
-/// What a writer leaves of a connection's bytes.
+/// What a writer leaves of a connection's bytes. A refusal changes no buffer; too few numbers are refused where a short output is.
 fn written(connection: &[u8], room: usize, numbers_len: usize, write: impl FnOnce(&Record, &mut [u8]) -> Result<usize, u8>) -> Left {
-    if numbers_len < 4 {
-        return untouched(NO_ROOM, numbers_len, room);
-    }
-    let record = match connection::record(connection) {
-        Ok(record) => record,
-        Err(answer) => return untouched(answer, numbers_len, room),
-    };
     let mut out = vec![BYTE; room];
-    match write(&record, &mut out) {
+    let wrote = connection::record(connection).and_then(|record| write(&record, &mut out).map_err(u32::from));
+    match wrote {
+        Ok(_) if numbers_len < 4 => untouched(NO_ROOM, numbers_len, room),
         Ok(length) => told(0, [length as u64, 0, 0, 0], numbers_len, out),
-        Err(number) => told(u32::from(number), [0; 4], numbers_len, out),
+        Err(number) => untouched(number, numbers_len, room),
     }
 }
 

@@ -85,15 +85,25 @@ fn rooms(length: usize) -> impl Iterator<Item = usize> {
     (0..length + 4).filter(move |room| length < 300 || *room < 20 || length < *room + 4)
 }
 
+/// Room for the numbers to spare, or now and then any number of them.
+fn numbers(random: &mut Random) -> usize {
+    if random.below(4) == 0 {
+        random.below(NUMBERS)
+    } else {
+        NUMBERS
+    }
+}
+
 /// Version 1 lines in every room; what is written reads back.
 pub fn lines(random: &mut Random, count: usize) -> Outcome {
     let mut outcome = Outcome::new("version 1 lines");
     for _ in 0..count {
         let connection = records::any(random);
+        let numbers = numbers(random);
         for room in rooms(104) {
-            let here = library::write_v1(&connection, room, NUMBERS);
+            let here = library::write_v1(&connection, room, numbers);
             outcome.reads_back(&here, &connection);
-            outcome.same(&here, &expected::write_v1(&connection, room, NUMBERS), || format!("{} in {room} bytes", hex(&connection)));
+            outcome.same(&here, &expected::write_v1(&connection, room, numbers), || format!("{} with {numbers} numbers in {room} bytes", hex(&connection)));
         }
     }
     outcome
@@ -109,11 +119,12 @@ pub fn blocks(random: &mut Random, count: usize) -> Outcome {
         if random.below(20) == 0 {
             area = records::longest_area(block, random);
         }
+        let numbers = numbers(random);
         for room in rooms(16 + block + area.len()) {
-            let here = library::write_v2(&connection, &area, room, NUMBERS);
+            let here = library::write_v2(&connection, &area, room, numbers);
             outcome.reads_back(&here, &connection);
-            outcome.same(&here, &expected::write_v2(&connection, &area, room, NUMBERS), || {
-                format!("{} with {} in {room} bytes", hex(&connection), hex(&area))
+            outcome.same(&here, &expected::write_v2(&connection, &area, room, numbers), || {
+                format!("{} with {} and {numbers} numbers in {room} bytes", hex(&connection), hex(&area))
             });
         }
     }
@@ -125,13 +136,14 @@ pub fn stored(random: &mut Random, count: usize) -> Outcome {
     let mut outcome = Outcome::new("stored records");
     for _ in 0..count {
         let connection = records::any(random);
+        let numbers = numbers(random);
         for room in rooms(6 + 216) {
-            let here = library::store(&connection, room, NUMBERS);
+            let here = library::store(&connection, room, numbers);
             if here.answer == 0 {
                 let again = library::load(&here.bytes[..here.numbers[0] as usize], SIZE);
                 outcome.add(if again.answer == 0 && again.bytes[..] == connection { Ok(()) } else { Err(format!("{} is loaded as {again:x?}", hex(&connection))) });
             }
-            outcome.same(&here, &expected::store(&connection, room, NUMBERS), || format!("{} in {room} bytes", hex(&connection)));
+            outcome.same(&here, &expected::store(&connection, room, numbers), || format!("{} with {numbers} numbers in {room} bytes", hex(&connection)));
         }
     }
     outcome

@@ -1,8 +1,4 @@
-pub mod Interface
-pub mod InterfaceLaws
+pub mod ReadInterface
 pub mod TlvInterface
-pub mod TlvLaws
 pub mod WriteInterface
-pub mod WriteLaws
 pub mod StoreInterface
-pub mod StoreLaws

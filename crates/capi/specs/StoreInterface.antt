@@ -4,20 +4,18 @@ use Prim.Native.Nat.{ℕ}
 use lib.Dec.{leb}
 use lib.ListN.{length}
 use Rattle.exact.specs.Pick.{pick}
-use Rattle.store.specs.declared.Outcome.{Outcome}
-use Rattle.store.specs.declared.Outcome.the-variants.{Accepted, Refused}
-use Rattle.store.specs.declared.Loaded.{Loaded}
-use Rattle.store.specs.Loading.{flawNumber}
-use Rattle.capi.specs.Interface.{connectionBytes, toldIn}
+use Rattle.store.specs.Loading.{LoadAnswer, loads, noRecord, loadedRecord}
+use Rattle.interface.specs.Buffers.{toldIn}
+use Rattle.interface.specs.Connection.{connectionSize, connectionBytes}
 
 -- 0 is accepted; else "15, 16, 17, 18"
-abbrev pub outcomeNumber : Outcome → ℕ
-outcomeNumber Accepted = 0
-outcomeNumber (Refused flaw) = flawNumber flaw
+abbrev pub loadNumber : LoadAnswer → ℕ
+loadNumber (loads r) = 0
+loadNumber (noRecord k) = k
 
 -- the answer of `dawnhawse_load`, and what it leaves in the connection: with too little room 14, and the bytes as they were
-abbrev pub loadedNumber : Loaded → List ℕ → ℕ
-loadedNumber l connection = pick (leb 221 (length connection)) (outcomeNumber (l .outcome)) 14
+abbrev pub loadedNumber : LoadAnswer → List ℕ → ℕ
+loadedNumber l connection = pick (leb connectionSize (length connection)) (loadNumber l) 14
 
-abbrev pub loadedConnection : Loaded → List ℕ → List ℕ
-loadedConnection l connection = toldIn 221 (connectionBytes (l .«record»)) connection
+abbrev pub loadedConnection : LoadAnswer → List ℕ → List ℕ
+loadedConnection l connection = toldIn connectionSize (connectionBytes (loadedRecord l)) connection

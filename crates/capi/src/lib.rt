@@ -1,7 +1,5 @@
 // The C library: the readers and writers for C callers, over numbers and bytes (include/dawnhawse.h).
 // No public function has a `requires`.
-mod connection;
-mod numbers;
 mod read;
 mod stored;
 mod tlvs;
@@ -11,6 +9,7 @@ pub use read::dawnhawse_read;
 pub use stored::dawnhawse_load;
 pub use stored::dawnhawse_store;
 pub use tlvs::dawnhawse_lookup;
+pub use tlvs::dawnhawse_next;
 pub use tlvs::dawnhawse_step;
 pub use write::dawnhawse_write_v1;
 pub use write::dawnhawse_write_v2;

@@ -1,17 +1,18 @@
 // What the bytes so far are, for C callers.
-use crate::connection::put_seen;
-use crate::numbers::Told;
-use crate::numbers::put_numbers;
 use answer::Verdict;
+use interface::CONNECTION;
+use interface::NUMBERS;
+use interface::Told;
+use interface::put_numbers;
+use interface::put_seen;
 use record::Kind;
 ghost use mathlib.Core.Path.{_≡_};
 ghost use Rattle.header.specs.Exactness.{verdict as verdictOn};
-ghost use Rattle.capi.specs.Interface.{readAnswer, readNumbers, readConnection};
-ghost use Rattle.capi.specs.InterfaceLaws.{Tells};
+ghost use Rattle.capi.specs.ReadInterface.{readAnswer, readNumbers, readConnection, toldOf};
 
 // What a verdict on size bytes and the kind tell.
 fn tell(verdict: Verdict, kind: Kind, size: usize) -> Told
-    ensures { λ r. ⌜ Tells verdict kind size r ⌝ }
+    ensures { λ r. ⌜ r ≡ toldOf verdict kind size ⌝ }
 {
     let span = reader::area_span(verdict, kind, size);
     let area = span.end - span.start;
@@ -48,10 +49,10 @@ pub extern "C" fn dawnhawse_read(bytes: &[u8], numbers: &mut [u64], connection: 
         × (now (numbers .exit) ≡ readNumbers (verdictOn (now (bytes .entry))) (now (numbers .entry)) (now (connection .entry)))
         × (now (connection .exit) ≡ readConnection (verdictOn (now (bytes .entry))) (now (numbers .entry)) (now (connection .entry))) ⌝ }
 {
-    if numbers.len() < 4 {
+    if numbers.len() < NUMBERS {
         return 14;
     }
-    if connection.len() < 221 {
+    if connection.len() < CONNECTION {
         return 14;
     }
     let seen = reader::scan(bytes);

@@ -1,17 +1,20 @@
 // Looking into a TLV area, for C callers.
-use crate::numbers::Told;
-use crate::numbers::put_numbers;
+use interface::NUMBERS;
+use interface::Told;
+use interface::put_numbers;
 use lookup::Answer;
 use walker::Shown;
 ghost use mathlib.Core.Path.{_≡_};
 ghost use Prim.Native.Nat.{_+_, _≤_};
-ghost use Rattle.walker.specs.Step.{stepAt, startOf, lengthOf};
-ghost use Rattle.capi.specs.TlvInterface.{lookupNumber, LookedUp, stepAnswer, stepLeft};
-ghost use Rattle.capi.specs.TlvLaws.{shownTold};
+ghost use lib.ListN.{drop};
+ghost use Rattle.tlv.specs.Tlv.{WellFormed};
+ghost use Rattle.lookup.specs.Lookup.{toldOutcome};
+ghost use Rattle.walker.specs.Step.{toldStep, headAt, stepAt, startOf, lengthOf};
+ghost use Rattle.capi.specs.TlvInterface.{lookupNumber, LookedUp, stepTold, Stepped};
 
 // The number of a lookup's answer.
 fn lookup_number(answer: Answer) -> u32
-    ensures { λ r. ⌜ r ≡ lookupNumber answer ⌝ }
+    ensures { λ r. ⌜ r ≡ lookupNumber (toldOutcome answer) ⌝ }
 {
     match answer {
         Answer::Found => 0,
@@ -34,7 +37,7 @@ pub extern "C" fn dawnhawse_lookup(
 {
     let examined = lookup::lookup(area, wanted, limit);
     let answer = examined.answer;
-    if numbers.len() < 4 {
+    if numbers.len() < NUMBERS {
         return 14;
     }
     put_numbers(
@@ -49,8 +52,8 @@ pub extern "C" fn dawnhawse_lookup(
 
 // What a step shows, as numbers; the value lies in the size bytes of the area.
 fn tell_step(shown: Shown, at: usize, size: usize) -> Told
-    requires { ⌜ startOf shown + lengthOf shown ≤ size ⌝ }
-    ensures { λ r. ⌜ r ≡ shownTold at shown ⌝ }
+    requires { ⌜ startOf (toldStep shown) + lengthOf (toldStep shown) ≤ size ⌝ }
+    ensures { λ r. ⌜ r ≡ stepTold at (toldStep shown) ⌝ }
 {
     match shown {
         Shown::Tlv {
@@ -81,17 +84,32 @@ fn tell_step(shown: Shown, at: usize, size: usize) -> Told
     }
 }
 
-// One step over a TLV area from a place. With room for 4 numbers they are told; else nothing is written.
-#[no_mangle]
-pub extern "C" fn dawnhawse_step(area: &[u8], at: usize, numbers: &mut [u64]) -> u32
-    ensures { λ r. ⌜ (r ≡ stepAnswer (stepAt (now (area .entry)) at) (now (numbers .entry)))
-        × (now (numbers .exit) ≡ stepLeft at (stepAt (now (area .entry)) at) (now (numbers .entry))) ⌝ }
+// Tells what a step shows. With room for 4 numbers they are told; else nothing is written.
+fn put_step(shown: Shown, at: usize, size: usize, numbers: &mut [u64]) -> u32
+    requires { ⌜ startOf (toldStep shown) + lengthOf (toldStep shown) ≤ size ⌝ }
+    ensures { λ r. ⌜ Stepped at (toldStep shown) (now (numbers .entry)) r (now (numbers .exit)) ⌝ }
 {
-    if numbers.len() < 4 {
+    if numbers.len() < NUMBERS {
         return 14;
     }
-    let shown = walker::step_at(area, at);
-    let told = tell_step(shown, at, area.len());
+    let told = tell_step(shown, at, size);
     put_numbers(numbers, told.first, told.second, told.start, told.length);
     told.answer
+}
+
+// One step over a TLV area from a place: it looks at all that remains.
+#[no_mangle]
+pub extern "C" fn dawnhawse_step(area: &[u8], at: usize, numbers: &mut [u64]) -> u32
+    ensures { λ r. ⌜ Stepped at (stepAt (now (area .entry)) at) (now (numbers .entry)) r (now (numbers .exit)) ⌝ }
+{
+    put_step(walker::shown_at(area, at), at, area.len(), numbers)
+}
+
+// The same with a look at one TLV: as `dawnhawse_step`, where what remains is well-formed.
+#[no_mangle]
+pub extern "C" fn dawnhawse_next(area: &[u8], at: usize, numbers: &mut [u64]) -> u32
+    ensures { λ r. ⌜ Stepped at (headAt (now (area .entry)) at) (now (numbers .entry)) r (now (numbers .exit))
+        × (WellFormed (drop at (now (area .entry))) → Stepped at (stepAt (now (area .entry)) at) (now (numbers .entry)) r (now (numbers .exit))) ⌝ }
+{
+    put_step(walker::head_at(area, at), at, area.len(), numbers)
 }

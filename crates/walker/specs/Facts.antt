@@ -29,10 +29,10 @@ module _ (s : List ℕ) (at : ℕ) where
   abbrev Lies : Step → Type 0
   Lies r = startOf r + lengthOf r ≤ length s
 
-  pub step-room : startOf (stepAt s at) + lengthOf (stepAt s at) ≤ length s
-  step-room =
-      pick-by Lies (wellFormed (drop at s))
-      (λ f.
+  pub head-room : startOf (headAt s at) + lengthOf (headAt s at) ≤ length s
+  head-room =
       pick-by Lies (ltb at (length s)) (λ g. pick-by Lies (leb (at + 3 + sizeAt s at) (length s)) (λ e. leb-true _ _ e) (λ e. omega arith))
-      (λ g. pick-by Lies (ltb (length s) at) (λ e. omega arith) (λ e. omega arith)))
-      (λ f. omega arith)
+      (λ g. pick-by Lies (ltb (length s) at) (λ e. omega arith) (λ e. omega arith))
+
+  pub step-room : startOf (stepAt s at) + lengthOf (stepAt s at) ≤ length s
+  step-room = pick-by Lies (wellFormed (drop at s)) (λ f. head-room) (λ f. omega arith)

@@ -2,7 +2,7 @@
 use native.Mathlib.Omega.{arith}
 use denote.Ref.{now}
 use Rattle.header.specs.Exactness.{verdict}
-use Rattle.capi.specs.InterfaceLaws.{few-numbers, short-connection, untouched, written}
+use Rattle.capi.proofs.ReadLaws.{few-numbers, short-connection, untouched, written}
 use borrow.Author.Needs.{needs}
 use Rattle.capi.proofs.read.dawnhawse_read.Statement.{statement}
 use Rattle.capi.proofs.read.dawnhawse_read.Tie as tie

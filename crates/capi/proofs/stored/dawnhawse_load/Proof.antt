@@ -12,18 +12,6 @@ returns c =
     let x = c .before .before .before .args in
     load-untold (loadAnswer (now (x .stored))) (now (x .connection)) (omega arith)
 
-load-requires : tie.Need-load-requires
-load-requires c κs = search needs
-
-put-record-requires : tie.Need-put-record-requires
-put-record-requires c κs = search needs
-
-outcome-number-requires : tie.Need-outcome-number-requires
-outcome-number-requires c κs = search needs
-
-same-length : tie.Need-same-length
-same-length c = search needs
-
 returns-2 : tie.Need-returns-2
 returns-2 c =
     let connected = c .before .before .before in
@@ -37,8 +25,8 @@ dawnhawse-load-spec =
     tie.close
     (tie.spec
     returns
-    load-requires
-    put-record-requires
-    outcome-number-requires
-    same-length
+    (λ c κs. search needs)
+    (λ c κs. search needs)
+    (λ c κs. search needs)
+    (λ c. search needs)
     returns-2)

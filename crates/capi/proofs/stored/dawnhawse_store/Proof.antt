@@ -9,26 +9,11 @@ use borrow.Author.Needs.{needs}
 use Rattle.capi.proofs.stored.dawnhawse_store.Statement.{statement}
 use Rattle.capi.proofs.stored.dawnhawse_store.Tie as tie
 
-request-requires : tie.Need-request-requires
-request-requires c κs = search needs
-
 returns : tie.Need-returns
 returns c =
     let asked = c .before .before in
     let x = asked .before .before .before .before .args in
     refuses storeAnswer stored (now (x .out)) (now (x .numbers)) (asked .request .result) (asked .request .ensures) (c .if1 .taken)
-
-store-requires : tie.Need-store-requires
-store-requires c κs = search needs
-
-tell-written-requires : tie.Need-tell-written-requires
-tell-written-requires c κs = search needs
-
-same-length : tie.Need-same-length
-same-length c = search needs
-
-same-length-2 : tie.Need-same-length-2
-same-length-2 c = search needs
 
 returns-2 : tie.Need-returns-2
 returns-2 c =
@@ -45,10 +30,10 @@ pub dawnhawse-store-spec : {M : Type 1} → statement M
 dawnhawse-store-spec =
     tie.close
     (tie.spec
-    request-requires
+    (λ c κs. search needs)
     returns
-    store-requires
-    tell-written-requires
-    same-length
-    same-length-2
+    (λ c κs. search needs)
+    (λ c κs. search needs)
+    (λ c. search needs)
+    (λ c. search needs)
     returns-2)

@@ -6,23 +6,11 @@ use borrow.Author.Needs.{needs}
 use Rattle.capi.proofs.tlvs.dawnhawse_lookup.Statement.{statement}
 use Rattle.capi.proofs.tlvs.dawnhawse_lookup.Tie as tie
 
-lookup-requires : tie.Need-lookup-requires
-lookup-requires c κs = search needs
-
 returns : tie.Need-returns
 returns c =
     let found = c .before in
     let x = found .before .before .before .args in
     lookup-untold (now (x .numbers)) (found .lookup .ensures) (omega arith)
-
-put-numbers-requires : tie.Need-put-numbers-requires
-put-numbers-requires c κs = search needs
-
-lookup-number-requires : tie.Need-lookup-number-requires
-lookup-number-requires c κs = search needs
-
-same-length : tie.Need-same-length
-same-length c = search needs
 
 returns-2 : tie.Need-returns-2
 returns-2 c =
@@ -35,9 +23,9 @@ pub dawnhawse-lookup-spec : {M : Type 1} → statement M
 dawnhawse-lookup-spec =
     tie.close
     (tie.spec
-    lookup-requires
+    (λ c κs. search needs)
     returns
-    put-numbers-requires
-    lookup-number-requires
-    same-length
+    (λ c κs. search needs)
+    (λ c κs. search needs)
+    (λ c. search needs)
     returns-2)

@@ -17,19 +17,10 @@ returns c =
     let x = c .before .before .before .args in
     step-untold (x .at) (stepAt (now (x .area)) (x .at)) (now (x .numbers)) (omega arith)
 
-step-at-requires : tie.Need-step-at-requires
-step-at-requires c κs = search needs
-
 tell-step-requires : tie.Need-tell-step-requires
 tell-step-requires c κs =
     let x = c .before .before .before .before .args in
     subst (λ (r : Shown). startOf r + lengthOf r ≤ length (now (x .area))) (sym (c .step-at .ensures)) (step-room (now (x .area)) (x .at))
-
-put-numbers-requires : tie.Need-put-numbers-requires
-put-numbers-requires c κs = search needs
-
-same-length : tie.Need-same-length
-same-length c = search needs
 
 returns-2 : tie.Need-returns-2
 returns-2 c =
@@ -45,8 +36,8 @@ dawnhawse-step-spec =
     tie.close
     (tie.spec
     returns
-    step-at-requires
+    (λ c κs. search needs)
     tell-step-requires
-    put-numbers-requires
-    same-length
+    (λ c κs. search needs)
+    (λ c. search needs)
     returns-2)

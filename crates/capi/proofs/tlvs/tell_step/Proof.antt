@@ -9,23 +9,11 @@ use borrow.Author.Needs.{needs}
 use Rattle.capi.proofs.tlvs.tell_step.Statement.{statement}
 use Rattle.capi.proofs.tlvs.tell_step.Tie as tie
 
-enum-known-shown : tie.Need-enum-known-shown
-enum-known-shown c = search needs
-
 add-t8 : tie.Need-add-t8
 add-t8 c =
     let start = c .before .before .before in
     let room = subst (λ (x : Shown). startOf x + lengthOf x ≤ start .args .size) (c .before .shown .given .1) (start .pre) in
     omega arith
-
-cast-t10 : tie.Need-cast-t10
-cast-t10 c = search needs
-
-enum-told : tie.Need-enum-told
-enum-told c = search needs
-
-enum-told-2 : tie.Need-enum-told-2
-enum-told-2 c = search needs
 
 returns : tie.Need-returns
 returns c = ap (shownTold (c .before .before .before .args .at)) (sym (c .before .shown .given .1))
@@ -39,4 +27,12 @@ returns-3 c = ap (shownTold (c .before .before .args .at)) (sym (c .enum-told2 .
 pub tell-step-spec : {M : Type 1} → statement M
 tell-step-spec =
     tie.close
-    (tie.spec enum-known-shown add-t8 cast-t10 enum-told enum-told-2 returns returns-2 returns-3)
+    (tie.spec
+    (λ c. search needs)
+    add-t8
+    (λ c. search needs)
+    (λ c. search needs)
+    (λ c. search needs)
+    returns
+    returns-2
+    returns-3)

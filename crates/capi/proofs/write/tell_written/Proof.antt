@@ -8,24 +8,6 @@ use borrow.Author.Needs.{needs}
 use Rattle.capi.proofs.write.tell_written.Statement.{statement}
 use Rattle.capi.proofs.write.tell_written.Tie as tie
 
-enum-known-written : tie.Need-enum-known-written
-enum-known-written c = search needs
-
-put-numbers-requires : tie.Need-put-numbers-requires
-put-numbers-requires c κs = search needs
-
-enum-known-written-2 : tie.Need-enum-known-written-2
-enum-known-written-2 c = search needs
-
-put-numbers-requires-2 : tie.Need-put-numbers-requires-2
-put-numbers-requires-2 c κs = search needs
-
-fault-number-requires : tie.Need-fault-number-requires
-fault-number-requires c κs = search needs
-
-same-length : tie.Need-same-length
-same-length c = search needs
-
 returns : tie.Need-returns
 returns c =
     let put = c .before .before in
@@ -33,9 +15,6 @@ returns c =
     let is = sym (case .before .written .given .1) in
     let x = case .before .before .before .before .args in
     (ap writtenNumber is, put .put-numbers .ensures ∙ ap (λ (w : Written). toldIn 4 (writtenNumbers w) (now (x .numbers))) is)
-
-same-length-2 : tie.Need-same-length-2
-same-length-2 c = search needs
 
 returns-2 : tie.Need-returns-2
 returns-2 c =
@@ -51,12 +30,12 @@ pub tell-written-spec : {M : Type 1} → statement M
 tell-written-spec =
     tie.close
     (tie.spec
-    enum-known-written
-    put-numbers-requires
-    enum-known-written-2
-    put-numbers-requires-2
-    fault-number-requires
-    same-length
+    (λ c. search needs)
+    (λ c κs. search needs)
+    (λ c. search needs)
+    (λ c κs. search needs)
+    (λ c κs. search needs)
+    (λ c. search needs)
     returns
-    same-length-2
+    (λ c. search needs)
     returns-2)

@@ -1,0 +1,68 @@
+-- What `dawnhawse_read` answers and leaves in the buffers that are lent to it: document 01's answers as numbers and bytes.
+use mathlib.Core.Bool.{Bool, false}
+use mathlib.Core.List.{List, [], _∷_}
+use Prim.Native.Nat.{ℕ, _-_}
+use lib.Dec.{leb}
+use lib.ListN.{length}
+use Rattle.exact.specs.Claim as Claim
+use Rattle.exact.specs.Claim.{accepted, more, refused}
+use Rattle.exact.specs.Pick.{pick}
+use Rattle.record.specs.declared.Kind.{Kind}
+use Rattle.record.specs.declared.Kind.the-variants.{Unspecified}
+use Rattle.record.specs.declared.Record.{Record}
+use Rattle.record.specs.Records.{bare}
+use Rattle.header.specs.Header.{Header}
+use Rattle.answer.specs.declared.Verdict.{Verdict}
+use Rattle.answer.specs.declared.Verdict.the-variants.{Accepted, More, Refused}
+use Rattle.answer.specs.Answers.{numberOf}
+use Rattle.reader.specs.Area.{areaStart, areaEnd}
+use Rattle.interface.specs.declared.numbers.Told.{Told}
+use Rattle.interface.specs.Buffers.{over, numbersSize}
+use Rattle.interface.specs.Connection.{connectionSize, connectionBytes}
+
+-- "Numbered answers": the refusal's number; 0 is accepted, 255 is more
+abbrev pub answerNumber : Claim.Verdict Header → ℕ
+answerNumber (accepted h n) = 0
+answerNumber more = 255
+answerNumber (refused k p) = k
+
+-- the header length or the place, the version, and where the TLV area starts and its length: it is the header's last bytes
+abbrev pub numbersOf : Claim.Verdict Header → List ℕ
+numbersOf (accepted h n) = n ∷ h .version ∷ (n - length (h .area)) ∷ length (h .area) ∷ []
+numbersOf more = 0 ∷ 0 ∷ 0 ∷ 0 ∷ []
+numbersOf (refused k p) = p ∷ 0 ∷ 0 ∷ 0 ∷ []
+
+-- the record of an accepted header; unspecified where nothing is accepted
+abbrev pub spokenRecord : Claim.Verdict Header → Record
+spokenRecord (accepted h n) = h .connection
+spokenRecord more = bare Unspecified
+spokenRecord (refused k p) = bare Unspecified
+
+-- "the output is shorter than what must be written": room for the numbers and the connection
+abbrev pub roomFor : List ℕ → List ℕ → Bool
+roomFor numbers connection = pick (leb numbersSize (length numbers)) (leb connectionSize (length connection)) false
+
+-- the answer of `dawnhawse_read`, and what it leaves in the two buffers: with too little room 14, and both as they were
+abbrev pub readAnswer : Claim.Verdict Header → List ℕ → List ℕ → ℕ
+readAnswer v numbers connection = pick (roomFor numbers connection) (answerNumber v) 14
+
+abbrev pub readNumbers : Claim.Verdict Header → List ℕ → List ℕ → List ℕ
+readNumbers v numbers connection = pick (roomFor numbers connection) (over (numbersOf v) numbers) numbers
+
+abbrev pub readConnection : Claim.Verdict Header → List ℕ → List ℕ → List ℕ
+readConnection v numbers connection =
+    pick (roomFor numbers connection) (over (connectionBytes (spokenRecord v)) connection) connection
+
+-- ── as the code finds them ──
+-- what is told of a verdict on size bytes, and the kind of its record
+abbrev pub toldOf : Verdict → Kind → ℕ → Told
+toldOf (Accepted n v) kind size =
+    record {
+      answer = 0;
+      first = n;
+      second = v;
+      start = n - (areaEnd (Accepted n v) kind size - areaStart (Accepted n v) kind size);
+      length = areaEnd (Accepted n v) kind size - areaStart (Accepted n v) kind size;
+    }
+toldOf More kind size = record { answer = 255; first = 0; second = 0; start = 0; length = 0 }
+toldOf (Refused k p) kind size = record { answer = numberOf k; first = p; second = 0; start = 0; length = 0 }
