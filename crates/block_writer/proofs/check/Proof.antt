@@ -1,21 +1,23 @@
 -- `check` makes its tests in the order of `blockAnswer`; the block of a record in memory is as long as its kind and the area say.
-use Prim.Native.Nat.{ℕ, _+_, _≤_}
-use mathlib.Core.Path.{_≡_, sym, _∙_}
-use mathlib.Core.Bool.{true}
+use Prim.Native.Nat.{ℕ, _+_, _≤_, _<_}
+use mathlib.Core.Path.{_≡_, sym, ap, _∙_}
+use mathlib.Core.Bool.{true, false}
 use mathlib.Core.List.{List}
 use native.Mathlib.Omega.{arith}
 use borrow.Author.Needs.{needs}
-use borrow.Author.Tests.{not-true, not-false}
+use borrow.Author.Tests.{not-true, not-false, le-leb, lt-leb, lt-ltb, le-ltb}
 use denote.Ref.{now}
+use lib.Dec.{ltb}
 use lib.ListN.{length}
 use Rattle.record.specs.declared.Record.{Record}
 use Rattle.record.specs.Records.{Sized}
 use Rattle.record.specs.Unused.{cleanTest}
 use Rattle.record.proofs.InMemory.{in-memory}
 use Rattle.header.specs.BlockFields.{block-small}
+use Rattle.answer.specs.Answers.{wrote}
 use Rattle.block_writer.specs.Areas.{areaTest}
 use Rattle.block_writer.specs.Written.{blockOf, writtenBlock}
-use Rattle.block_writer.specs.WrittenLaws.{answer-unused, answer-area, answer-size, answer-room, answer-bytes, block-length, written-length}
+use Rattle.block_writer.specs.WrittenLaws.{block-length, written-length}
 use Rattle.block_writer.proofs.check.Statement.{statement}
 use Rattle.block_writer.proofs.check.Tie as tie
 
@@ -26,19 +28,20 @@ module _ (c : tie.After-clean) where
   abbrev area : List ℕ
   area = now (c .before .before .args .area)
 
+  abbrev room : ℕ
+  room = c .before .before .args .room
+
   sized : Sized connection
   sized = in-memory connection _ (c .before .before .good .0)
 
 returns : tie.Need-returns
-returns c = answer-unused (connection (c .before)) _ _ (sym (c .before .clean .ensures .0) ∙ not-true _ (c .if1 .taken))
+returns c = simp (sym (c .before .clean .ensures .0) ∙ not-true _ (c .if1 .taken))
 
 cleaned : (c : tie.Else1) → cleanTest (connection (c .before)) ≡ true
 cleaned c = sym (c .before .clean .ensures .0) ∙ not-false _ (c .if1 .left)
 
 returns-2 : tie.Need-returns-2
-returns-2 c =
-    let d = c .before .before in
-    answer-area (connection (d .before)) _ _ (cleaned d) (sym (c .before .area-fits .ensures) ∙ not-true _ (c .if2 .taken))
+returns-2 c = simp (cleaned (c .before .before), sym (c .before .area-fits .ensures) ∙ not-true _ (c .if2 .taken))
 
 module _ (c : tie.After-block-length) where
   abbrev tested : tie.Else1
@@ -60,6 +63,12 @@ module _ (c : tie.After-block-length) where
   in-all : length (writtenBlock (connection first) (area first)) ≡ 16 + (c .block-length .result + length (area first))
   in-all = let l = written-length (connection first) (area first) (sized first) in let e = c .block-length .ensures in omega arith
 
+  large : 65536 ≤ c .block-length .result + length (area first) → ltb (length (blockOf (connection first) (area first))) 65536 ≡ false
+  large h = let l = in-block in le-ltb (length (blockOf (connection first) (area first))) 65536 (omega arith)
+
+  fits : c .block-length .result + length (area first) < 65536 → ltb (length (blockOf (connection first) (area first))) 65536 ≡ true
+  fits h = let l = in-block in lt-ltb (length (blockOf (connection first) (area first))) 65536 (omega arith)
+
 sub-if3 : tie.Need-sub-if3
 sub-if3 c = let h = few c in omega arith
 
@@ -67,8 +76,7 @@ returns-3 : tie.Need-returns-3
 returns-3 c =
     let d = c .before in
     let h = few d in
-    let l = in-block d in
-    answer-size (connection (first d)) (area (first d)) _ (cleaned (tested d)) (fitting d) (omega arith)
+    simp (cleaned (tested d), fitting d, large d (omega arith))
 
 add-if4 : tie.Need-add-if4
 add-if4 c = let h = few (c .before) in omega arith
@@ -77,18 +85,17 @@ returns-4 : tie.Need-returns-4
 returns-4 c =
     let d = c .before .before in
     let h = few d in
-    let l = in-block d in
-    let w = in-all d in
-    answer-room (connection (first d)) (area (first d)) _ (cleaned (tested d)) (fitting d) (omega arith) (omega arith)
+    let size = in-all d in
+    let short : room (first d) < length (writtenBlock (connection (first d)) (area (first d))) = omega arith in
+    simp (cleaned (tested d), fitting d, fits d (omega arith), lt-leb _ _ short)
 
 returns-5 : tie.Need-returns-5
 returns-5 c =
     let d = c .before .before in
     let h = few d in
-    let l = in-block d in
-    let w = in-all d in
-    answer-bytes (connection (first d)) (area (first d)) _ (cleaned (tested d)) (fitting d)
-    (16 + (d .block-length .result + length (area (first d)))) (omega arith) (omega arith) (omega arith)
+    let size = in-all d in
+    let long : length (writtenBlock (connection (first d)) (area (first d))) ≤ room (first d) = omega arith in
+    ap wrote (sym size) ∙ simp (cleaned (tested d), fitting d, fits d (omega arith), le-leb _ _ long)
 
 pub check-spec : {M : Type 1} → statement M
 check-spec =

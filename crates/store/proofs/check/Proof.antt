@@ -1,7 +1,7 @@
 -- `check` makes its tests in the order of `storeAnswer`; the stored form of a record in memory is as long as its kind says.
-use Prim.Native.Nat.{ℕ, _+_, _≤_, _<_}
-use mathlib.Core.Path.{_≡_, sym, ap, _∙_}
-use mathlib.Core.Bool.{true, false}
+use Prim.Native.Nat.{_+_, _≤_, _<_}
+use mathlib.Core.Path.{_≡_, sym, _∙_}
+use mathlib.Core.Bool.{true}
 use native.Mathlib.Omega.{arith}
 use borrow.Author.Needs.{needs}
 use borrow.Author.Tests.{not-true, not-false, le-leb, lt-leb}
@@ -10,25 +10,13 @@ use Rattle.record.specs.declared.Record.{Record}
 use Rattle.record.specs.Unused.{cleanTest}
 use Rattle.record.specs.AddressBlockLaws.{address-fits, port-fits}
 use Rattle.record.proofs.InMemory.{in-memory}
-use Rattle.answer.specs.Answers.{wrote, refuses}
-use Rattle.store.specs.Stored.{stored, storeAnswer}
+use Rattle.store.specs.Stored.{stored}
 use Rattle.store.specs.RoundTrip.{stored-length}
 use Rattle.store.proofs.check.Statement.{statement}
 use Rattle.store.proofs.check.Tie as tie
 
--- ── the answers, by the tests that were made ──
-module _ (r : Record) (room : ℕ) where
-  answer-unused : cleanTest r ≡ false → refuses 11 ≡ storeAnswer r room
-  answer-unused e = rw e
-
-  answer-room : cleanTest r ≡ true → room < length (stored r) → refuses 14 ≡ storeAnswer r room
-  answer-room e h = rw (e, lt-leb (length (stored r)) room h)
-
-  answer-bytes : (n : ℕ) → cleanTest r ≡ true → n ≡ length (stored r) → n ≤ room → wrote n ≡ storeAnswer r room
-  answer-bytes n e size h = ap wrote size ∙ rw (e, le-leb (length (stored r)) room (omega arith))
-
 returns : tie.Need-returns
-returns c = answer-unused (c .before .before .args .connection) _ (sym (c .before .clean .ensures .0) ∙ not-true _ (c .if1 .taken))
+returns c = simp (sym (c .before .clean .ensures .0) ∙ not-true _ (c .if1 .taken))
 
 module _ (c : tie.After-block-length) where
   abbrev start : tie.Start
@@ -51,10 +39,18 @@ add-n c =
     omega arith
 
 returns-2 : tie.Need-returns-2
-returns-2 c = let l = in-all (c .before) in answer-room (connection (c .before)) _ (cleaned (c .before)) (omega arith)
+returns-2 c =
+    let d = c .before in
+    let size = in-all d in
+    let short : start d .args .room < length (stored (connection d)) = omega arith in
+    simp (cleaned d, lt-leb _ _ short)
 
 returns-3 : tie.Need-returns-3
-returns-3 c = answer-bytes (connection (c .before)) _ _ (cleaned (c .before)) (in-all (c .before)) (omega arith)
+returns-3 c =
+    let d = c .before in
+    let size = in-all d in
+    let long : length (stored (connection d)) ≤ start d .args .room = omega arith in
+    simp (cleaned d, le-leb _ _ long, size)
 
 pub check-spec : {M : Type 1} → statement M
 check-spec = tie.close (tie.spec (λ c κs. search needs) returns (λ c κs. search needs) add-n returns-2 returns-3)
