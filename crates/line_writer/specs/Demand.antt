@@ -12,8 +12,9 @@ use lib.Seq.{take-append-seam}
 use borrow.Author.Tests.{le-leb, leb-true, leb-false}
 use Rattle.exact.specs.Claim.{accepted}
 use Rattle.exact.specs.Pick.{pick-by}
-use Rattle.record.specs.declared.Transport.the-variants.{Stream}
-use Rattle.record.specs.declared.Kind.the-variants.{Unspecified, Ip4, Ip6}
+use Rattle.record.specs.declared.Transport.the-variants.{Stream, Datagram}
+use Rattle.record.specs.declared.Kind.{Kind}
+use Rattle.record.specs.declared.Kind.the-variants.{Local, Unspecified, Ip4, Ip6, Unix}
 use Rattle.record.specs.declared.Record.{Record}
 use Rattle.record.specs.Records.{Clean, Sized}
 use Rattle.record.specs.Unused.{cleanTest}
@@ -22,18 +23,33 @@ use Rattle.header.specs.Header.{Whole}
 use Rattle.header.specs.Demand.{Judges}
 use Rattle.header.specs.LineFields.{lined}
 use Rattle.header.specs.Facts.{longest-tcp4, longest-tcp6}
-use Rattle.answer.specs.declared.Fault.the-variants.{Form, Unused, Room}
-use Rattle.answer.specs.declared.Written.{Written}
-use Rattle.answer.specs.declared.Written.the-variants.{Bytes, Refused}
-use Rattle.line_writer.specs.Written.{hasForm, writtenLine, CarriedByLine, lineAnswer}
+use Rattle.answer.specs.Answers.{WriteAnswer, wrote, refuses, outputAfter}
 use Rattle.answer.specs.OutputLaws.{written-front}
-use Rattle.answer.specs.Answers.{outputAfter}
+use Rattle.line_writer.specs.Written.{HasForm, unspecified, tcp4, tcp6, hasForm, writtenLine, CarriedByLine, lineAnswer}
 use Rattle.line_writer.specs.LineLaws.{line-of, tcp4-line, tcp6-line}
+
+-- the test of a form says what `HasForm` says
+never : {A : Type 0} → false ≡ true → A
+never e = let z : _≡_ {A = ℕ} 0 1 = cc in absurd (omega arith)
+
+form-tested : (k : Kind) → hasForm k ≡ true → HasForm k
+form-tested Local e = never e
+form-tested Unspecified e = unspecified
+form-tested (Ip4 Stream) e = tcp4
+form-tested (Ip4 Datagram) e = never e
+form-tested (Ip6 Stream) e = tcp6
+form-tested (Ip6 Datagram) e = never e
+form-tested (Unix t) e = never e
+
+form-test : (k : Kind) → HasForm k → hasForm k ≡ true
+form-test Unspecified unspecified = refl
+form-test (Ip4 Stream) tcp4 = refl
+form-test (Ip6 Stream) tcp6 = refl
 
 -- the line is a whole header that says the record, with version 1 and no TLV area
 pub line-whole : (r : Record) → CarriedByLine r → Whole (writtenLine r) (lined r)
 unfolding writtenLine
-line-whole r w = inl (line-of (r .kind) r refl (w .form) (w .sized) (w .clean), refl, refl)
+line-whole r w = inl (line-of (r .kind) r refl (form-test (r .kind) (w .form)) (w .sized) (w .clean), refl, refl)
 
 -- with any bytes behind it, it is accepted with that record, version 1 and its length
 pub line-read : (r : Record) → CarriedByLine r → (t : List ℕ) → Judges (accepted (lined r) (length (writtenLine r))) (writtenLine r ++ t)
@@ -43,53 +59,53 @@ line-read r w t = (
 )
 
 -- what each answer means: "Writers check 10, 11, 12, 13, 14 in this order"
-pub data Means (r : Record) (room : ℕ) : Written → Type 0 where
-  no-form : hasForm (r .kind) ≡ false → Means r room (Refused Form)
-  unused : hasForm (r .kind) ≡ true → (Clean r → ⊥) → Means r room (Refused Unused)
-  too-short : CarriedByLine r → room < length (writtenLine r) → Means r room (Refused Room)
-  written : CarriedByLine r → length (writtenLine r) ≤ room → Means r room (Bytes (length (writtenLine r)))
+pub data Means (r : Record) (room : ℕ) : WriteAnswer → Type 0 where
+  no-form : (HasForm (r .kind) → ⊥) → Means r room (refuses 10)
+  unused : HasForm (r .kind) → (Clean r → ⊥) → Means r room (refuses 11)
+  too-short : CarriedByLine r → room < length (writtenLine r) → Means r room (refuses 14)
+  written : CarriedByLine r → length (writtenLine r) ≤ room → Means r room (wrote (length (writtenLine r)))
 
 pub answer-means : (r : Record) (room : ℕ) → Sized r → Means r room (lineAnswer r room)
 answer-means r room sized =
-    let P : Written → Type 0 = Means r room in
+    let P : WriteAnswer → Type 0 = Means r room in
     pick-by P (hasForm (r .kind))
-    (λ form.
+    (λ test.
+    let form = form-tested (r .kind) test in
     pick-by P (cleanTest r)
     (λ test.
     let carried : CarriedByLine r = record { sized = sized; form = form; clean = clean-test r sized .0 test } in
     pick-by P (leb (length (writtenLine r)) room) (λ t. written carried (leb-true _ _ t)) (λ t. too-short carried (leb-false _ _ t)))
-    (λ test. unused form (λ clean. let e = clean-test r sized .1 clean in let z : _≡_ {A = ℕ} 0 1 = cc in omega arith)))
-    no-form
+    (λ test. unused form (λ clean. never (sym test ∙ clean-test r sized .1 clean))))
+    (λ test. no-form (λ form. never (sym test ∙ form-test (r .kind) form)))
 
 -- it accepts only the records that version 1 can carry, where there is room, and answers the line's length
-pub line-accepted : (r : Record) (room n : ℕ) → Sized r → lineAnswer r room ≡ Bytes n → CarriedByLine r × (length (writtenLine r) ≡ n) × (n ≤ room)
+pub line-accepted : (r : Record) (room n : ℕ) → Sized r → lineAnswer r room ≡ wrote n → CarriedByLine r × (length (writtenLine r) ≡ n) × (n ≤ room)
 line-accepted r room n sized e = by (lineAnswer r room) e (answer-means r room sized)
   where
-    by : (a : Written) → a ≡ Bytes n → Means r room a → CarriedByLine r × (length (writtenLine r) ≡ n) × (n ≤ room)
-    by (Refused f) q m = let z : _≡_ {A = ℕ} 0 1 = cc in absurd (omega arith)
-    by (Bytes k) q (written w fits) = let size : length (writtenLine r) ≡ n = cc in (w, size, omega arith)
+    by : (a : WriteAnswer) → a ≡ wrote n → Means r room a → CarriedByLine r × (length (writtenLine r) ≡ n) × (n ≤ room)
+    by (refuses k) q m = let z : _≡_ {A = ℕ} 0 1 = cc in absurd (omega arith)
+    by (wrote k) q (written w fits) = let size : length (writtenLine r) ≡ n = cc in (w, size, omega arith)
 
 -- and all of them
-pub line-written : (r : Record) (room : ℕ) → CarriedByLine r → length (writtenLine r) ≤ room → lineAnswer r room ≡ Bytes (length (writtenLine r))
-line-written r room w fits = rw (w .form, clean-test r (w .sized) .1 (w .clean), le-leb _ _ fits)
+pub line-written : (r : Record) (room : ℕ) → CarriedByLine r → length (writtenLine r) ≤ room → lineAnswer r room ≡ wrote (length (writtenLine r))
+line-written r room w fits = rw (form-test (r .kind) (w .form), clean-test r (w .sized) .1 (w .clean), le-leb _ _ fits)
 
 -- the whole demand: whatever the writer accepts, what it wrote is read back as that record, with any bytes behind it, and its length is the answer
-pub line-demand : (r : Record) (room n : ℕ) → Sized r → lineAnswer r room ≡ Bytes n → (t : List ℕ) → Judges (accepted (lined r) n) (writtenLine r ++ t)
+pub line-demand : (r : Record) (room n : ℕ) → Sized r → lineAnswer r room ≡ wrote n → (t : List ℕ) → Judges (accepted (lined r) n) (writtenLine r ++ t)
 line-demand r room n sized e t =
     let a = line-accepted r room n sized e in
     subst (λ (m : ℕ). Judges (accepted (lined r) m) (writtenLine r ++ t)) (a .1) (line-read r (a .0) t)
 
 -- the same of an output: the n bytes that the writer answers, with any bytes behind them, are accepted with the record
-abbrev pub ReadsBack : Record → Written → List ℕ → Type 0
-ReadsBack r answer output = (n : ℕ) → answer ≡ Bytes n → (t : List ℕ) → Judges (accepted (lined r) n) (take n output ++ t)
+abbrev pub ReadsBack : Record → WriteAnswer → List ℕ → Type 0
+ReadsBack r answer output = (n : ℕ) → answer ≡ wrote n → (t : List ℕ) → Judges (accepted (lined r) n) (take n output ++ t)
 
-pub reads-back : (r : Record) (before after : List ℕ) (answer : Written) → Sized r → answer ≡ lineAnswer r (length before)
-    → after ≡ outputAfter answer (writtenLine r) before → ReadsBack r answer after
-reads-back r before after answer sized e output n is t =
-    let answered : lineAnswer r (length before) ≡ Bytes n = sym e ∙ is in
-    let size = line-accepted r (length before) n sized answered .1 in
-    let front = written-front (writtenLine r) before after answer n is size output in
-    subst (λ (f : List ℕ). Judges (accepted (lined r) n) (f ++ t)) (sym front) (line-demand r (length before) n sized answered t)
+pub reads-back : (r : Record) (before after : List ℕ) → Sized r → after ≡ outputAfter (lineAnswer r (length before)) (writtenLine r) before
+    → ReadsBack r (lineAnswer r (length before)) after
+reads-back r before after sized output n is t =
+    let size = line-accepted r (length before) n sized is .1 in
+    let front = written-front (writtenLine r) before after (lineAnswer r (length before)) n is size output in
+    subst (λ (f : List ℕ). Judges (accepted (lined r) n) (f ++ t)) (sym front) (line-demand r (length before) n sized is t)
 
 -- "Longest TCP4 line 56 bytes, TCP6 104"; an UNKNOWN line is written with 15
 pub longest4 : (r : Record) → CarriedByLine r → r .kind ≡ Ip4 Stream → length (writtenLine r) ≤ 56

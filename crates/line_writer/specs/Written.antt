@@ -1,5 +1,4 @@
 -- What the version 1 writer writes and answers (document 01, "The text line" and "Numbered answers").
-use mathlib.Core.Path.{_≡_}
 use mathlib.Core.Bool.{Bool, true, false}
 use mathlib.Core.List.{List, [], _++_}
 use Prim.Native.Nat.{ℕ}
@@ -13,13 +12,17 @@ use Rattle.record.specs.declared.Kind.the-variants.{Local, Unspecified, Ip4, Ip
 use Rattle.record.specs.declared.Record.{Record}
 use Rattle.record.specs.Records.{Clean, Sized}
 use Rattle.record.specs.Unused.{cleanTest}
-use Rattle.answer.specs.declared.Fault.the-variants.{Form, Unused, Room}
-use Rattle.answer.specs.declared.Written.{Written}
-use Rattle.answer.specs.declared.Written.the-variants.{Bytes, Refused}
+use Rattle.answer.specs.Answers.{WriteAnswer, wrote, refuses}
 use Rattle.draft.specs.Numeral.{decimalText}
 use Rattle.line_writer.specs.Addresses.{ip4Text, ip6Text}
 
 -- "The version 1 writer carries IPv4 stream, IPv6 stream and unspecified"
+pub data HasForm : Kind → Type 0 where
+  unspecified : HasForm Unspecified
+  tcp4 : HasForm (Ip4 Stream)
+  tcp6 : HasForm (Ip6 Stream)
+
+-- the same as a test
 abbrev pub hasForm : Kind → Bool
 hasForm Local = false
 hasForm Unspecified = true
@@ -51,14 +54,14 @@ writtenLine r = lineText (r .kind) r
 -- the records that version 1 can carry
 pub record CarriedByLine (r : Record) : Type 0 where
   pub sized : Sized r
-  pub form : hasForm (r .kind) ≡ true
+  pub form : HasForm (r .kind)
   pub clean : Clean r
 
 -- "Writers check 10, 11, 12, 13, 14 in this order; 12 and 13 are the version 2 writer's only"
-abbrev pub lineAnswer : (r : Record) (room : ℕ) → Written
+abbrev pub lineAnswer : (r : Record) (room : ℕ) → WriteAnswer
 lineAnswer r room =
     pick (hasForm (r .kind))
     (pick (cleanTest r)
-    (pick (leb (length (writtenLine r)) room) (Bytes (length (writtenLine r))) (Refused Room))
-    (Refused Unused))
-    (Refused Form)
+    (pick (leb (length (writtenLine r)) room) (wrote (length (writtenLine r))) (refuses 14))
+    (refuses 11))
+    (refuses 10)

@@ -18,10 +18,10 @@ ghost use mathlib.Core.List.{[]};
 ghost use Prim.Native.Nat.{_+_, _*_};
 ghost use lib.ListN.{length, take};
 ghost use Rattle.draft.specs.Drafts.{draftOf, appended};
-ghost use Rattle.answer.specs.Answers.{outputAfter};
+ghost use Rattle.answer.specs.Answers.{toldWritten, outputAfter};
 ghost use Rattle.line_writer.specs.Addresses.{octetsText, groupsText, groupsOf, addressText};
 ghost use Rattle.line_writer.specs.Written.{hasForm, tcpText, writtenLine, lineAnswer};
-ghost use Rattle.line_writer.specs.Demand.{ReadsBack};
+ghost use Rattle.line_writer.specs.Demand.{Means, ReadsBack};
 
 // IPv4 text: four decimals with dots.
 fn push_octets(draft: Draft, octets: [u16; 4]) -> Draft
@@ -137,12 +137,11 @@ fn has_form(kind: Kind) -> bool
     }
 }
 
-// Writes the record's line at the front of the output, and answers its length. Or refuses, in this order, a kind without a form (10), unused bytes or
-// ports that are not zero (11) and an output that is too short (14), and leaves the output as it was.
-pub fn write_line(connection: Record, out: &mut [u8]) -> Written
-    ensures { λ r. ⌜ (r ≡ lineAnswer connection (length (now (out .entry))))
-        × (now (out .exit) ≡ outputAfter r (writtenLine connection) (now (out .entry)))
-        × ReadsBack connection r (now (out .exit)) ⌝ }
+// What is answered for a line of n bytes and an output of this size: a kind without a form (10), unused bytes or ports that are not zero (11), an output
+// that is too short (14), or the length.
+fn check(connection: Record, n: usize, room: usize) -> Written
+    requires { ⌜ n ≡ length (writtenLine connection) ⌝ }
+    ensures { λ r. ⌜ toldWritten r ≡ lineAnswer connection room ⌝ }
 {
     let kind = connection.kind;
     if !has_form(kind) {
@@ -151,12 +150,29 @@ pub fn write_line(connection: Record, out: &mut [u8]) -> Written
     if !clean(connection) {
         return Written::Refused(Fault::Unused);
     }
+    if room < n {
+        return Written::Refused(Fault::Room);
+    }
+    Written::Bytes(n)
+}
+
+// Writes the record's line at the front of the output, and answers its length. Or refuses, in this order, a kind without a form (10), unused bytes or
+// ports that are not zero (11) and an output that is too short (14), and leaves the output as it was.
+pub fn write_line(connection: Record, out: &mut [u8]) -> Written
+    ensures { λ r. ⌜ (toldWritten r ≡ lineAnswer connection (length (now (out .entry))))
+        × (now (out .exit) ≡ outputAfter (lineAnswer connection (length (now (out .entry)))) (writtenLine connection) (now (out .entry)))
+        × Means connection (length (now (out .entry))) (toldWritten r)
+        × ReadsBack connection (toldWritten r) (now (out .exit)) ⌝ }
+{
     let draft = line(connection);
     let bytes = draft.bytes;
     let n = draft.length;
-    if out.len() < n {
-        return Written::Refused(Fault::Room);
+    let answer = check(connection, n, out.len());
+    match answer {
+        Written::Refused(_) => answer,
+        Written::Bytes(_) => {
+            put(&bytes[..n], out, 0);
+            answer
+        }
     }
-    put(&bytes[..n], out, 0);
-    Written::Bytes(n)
 }

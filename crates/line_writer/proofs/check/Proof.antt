@@ -1,0 +1,49 @@
+-- `check` makes its tests in the order of `lineAnswer`.
+use Prim.Native.Nat.{_≤_, _<_}
+use mathlib.Core.Path.{_≡_, sym, _∙_}
+use mathlib.Core.Bool.{true}
+use native.Mathlib.Omega.{arith}
+use borrow.Author.Needs.{needs}
+use borrow.Author.Tests.{not-true, not-false, le-leb, lt-leb}
+use lib.ListN.{length}
+use Rattle.record.specs.declared.Record.{Record}
+use Rattle.record.specs.Unused.{cleanTest}
+use Rattle.line_writer.specs.Written.{hasForm, writtenLine}
+use Rattle.line_writer.proofs.check.Statement.{statement}
+use Rattle.line_writer.proofs.check.Tie as tie
+
+returns : tie.Need-returns
+returns c = simp (sym (c .before .has-form .ensures) ∙ not-true _ (c .if1 .taken))
+
+form : (c : tie.Else1) → hasForm (c .before .before .args .connection .kind) ≡ true
+form c = sym (c .before .has-form .ensures) ∙ not-false _ (c .if1 .left)
+
+returns-2 : tie.Need-returns-2
+returns-2 c = simp (form (c .before .before), sym (c .before .clean .ensures .0) ∙ not-true _ (c .if2 .taken))
+
+module _ (c : tie.Else2) where
+  abbrev start : tie.Start
+  start = c .before .before .before .before
+
+  abbrev connection : Record
+  connection = start .args .connection
+
+  tested : cleanTest connection ≡ true
+  tested = sym (c .before .clean .ensures .0) ∙ not-false _ (c .if2 .left)
+
+returns-3 : tie.Need-returns-3
+returns-3 c =
+    let d = c .before in
+    let size = start d .pre in
+    let short : start d .args .room < length (writtenLine (connection d)) = omega arith in
+    simp (form (d .before .before), tested d, lt-leb _ _ short)
+
+returns-4 : tie.Need-returns-4
+returns-4 c =
+    let d = c .before in
+    let size = start d .pre in
+    let long : length (writtenLine (connection d)) ≤ start d .args .room = omega arith in
+    simp (form (d .before .before), tested d, le-leb _ _ long, size)
+
+pub check-spec : {M : Type 1} → statement M
+check-spec = tie.close (tie.spec (λ c κs. search needs) returns (λ c κs. search needs) returns-2 returns-3 returns-4)
