@@ -11,7 +11,7 @@ use borrow.Author.Tests.{ltb-true, ltb-false}
 use Rattle.exact.specs.Claim.{Verdict, accepted, more, AllBytes}
 use Rattle.exact.specs.Field.{after, shift}
 use Rattle.exact.specs.Machine.{shift-shift}
-pub use Rattle.record.specs.AddressBlockLaws.{bytes-of, bytes-drop}
+pub use Rattle.exact.specs.Parser.{bytes-of, bytes-drop}
 
 -- ── fields of n bytes ──
 module _ {A : Type 0} (v : List ℕ → Verdict A) where

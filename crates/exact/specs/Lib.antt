@@ -14,5 +14,6 @@ pub mod Literal
 pub mod Byte
 pub mod Number
 pub mod Ended
+pub mod Valueless
 pub mod Told
 pub mod Numbered

@@ -2,14 +2,12 @@
 use mathlib.Core.Path.{_≡_, refl, sym, ap, subst}
 use mathlib.Core.Bool.{Bool}
 use mathlib.Core.List.{List, [], _∷_}
-use Prim.Native.Nat.{ℕ, suc, _+_, _<_}
+use Prim.Native.Nat.{ℕ, _≤_, _<_}
 use native.Mathlib.Omega.{arith}
-use native.Mathlib.Numerals.{add-one}
 use lib.Dec.{eqb}
-use lib.ListN.{length, drop, getD, drop-of-length-le}
-use lib.Seq.{drop-cons}
-use borrow.Author.Tests.{eqb-true, eqb-false, eq-eqb, ne-eqb}
-use Rattle.exact.specs.Claim.{Verdict, AllBytes}
+use lib.ListN.{length, getD}
+use borrow.Author.Tests.{eqb-true, eqb-false}
+use Rattle.exact.specs.Claim.{Verdict, accepted, AllBytes}
 use Rattle.exact.specs.Field.{Exact}
 use Rattle.exact.specs.Machine.{leaf, Move, go, done, dead, Sound, run, machine-exact}
 use Rattle.exact.specs.Pick.{pick, pick-by}
@@ -46,11 +44,22 @@ module _ {A : Type 0} (k : ℕ) (v : A) where
       pick-by (Sound (Literal v) NonEmpty (x ∷ w) c) (eqb c x) (λ t. next-literal c x w (eqb-true c x t))
       (λ t f a l. eqb-false c x t (let h = l .0 in cc))
 
+  -- no bytes are there at once
   abbrev pub literal : List ℕ → List ℕ → Verdict A
-  literal w s = run k (stepLiteral v) s w
+  literal [] s = accepted v 0
+  literal (x ∷ w) s = run k (stepLiteral v) s (x ∷ w)
 
-  pub literal-exact : (x : ℕ) (w s : List ℕ) → Exact (leaf k (Literal v (x ∷ w))) (literal (x ∷ w) s) s
-  literal-exact x w s =
+  pub literal-exact : (w s : List ℕ) → Exact (leaf k (Literal v w)) (literal w s) s
+  literal-exact [] s =
+      record {
+        front = [];
+        rest = s;
+        split = refl;
+        size = refl;
+        whole = (refl, refl);
+        only = λ x y g b e l. l;
+      }
+  literal-exact (x ∷ w) s =
       machine-exact k (Literal v) NonEmpty (stepLiteral v) (λ q ok. (q, v, (refl, refl))) solid-literal sound-literal s (x ∷ w) tt
 
 abbrev pub text : {A : Type 0} (k : ℕ) → A → (x : ℕ) (w : List ℕ) → AllBytes (x ∷ w) → Parser A
@@ -58,7 +67,7 @@ text k a x w in-bytes =
     record {
       field = leaf k (Literal a (x ∷ w));
       verdict = literal k a (x ∷ w);
-      exact = literal-exact k a x w;
+      exact = literal-exact k a (x ∷ w);
       opens = record { tail = x ∷ w; value = a; whole = (refl, refl) };
       bytes = λ f b l. subst AllBytes (sym (l .0)) in-bytes;
     }
@@ -70,17 +79,9 @@ starts-text first k v x w =
       head = λ c f a l. let e = l .0 in ap first cc;
     }
 
--- ── the steps, by the tests that the code makes ──
-module _ {A : Type 0} (v : A) (w : List ℕ) (i c : ℕ) (h : i < length w) where
-  pub lit-dead : (c ≡ getD w i 0 → ⊥) → stepLiteral v (drop i w) c ≡ dead
-  lit-dead n = rw (drop-cons w i 0 h, stepLiteral) (simp (ne-eqb c (getD w i 0) n))
-
-  pub lit-done : c ≡ getD w i 0 → i + 1 ≡ length w → stepLiteral v (drop i w) c ≡ done v
-  lit-done e l =
-      let last : drop (suc i) w ≡ [] = drop-of-length-le w {i = suc i} (omega arith) in
-      rw (drop-cons w i 0 h) (simp (eq-eqb c (getD w i 0) e, last))
-
-  pub lit-go : c ≡ getD w i 0 → (i + 1 ≡ length w → ⊥) → stepLiteral v (drop i w) c ≡ go (drop (i + 1) w)
-  lit-go e l =
-      let next : drop (suc i) w ≡ getD w (suc i) 0 ∷ drop (suc (suc i)) w = drop-cons w (suc i) 0 (omega arith) in
-      rw (add-one, drop-cons w i 0 h, next) (simp (eq-eqb c (getD w i 0) e))
+-- n is how many first bytes s and w have in common
+pub record Common (s w : List ℕ) (n : ℕ) : Type 0 where
+  pub in-s : n ≤ length s
+  pub in-w : n ≤ length w
+  pub same : (i : ℕ) → i < n → getD s i 0 ≡ getD w i 0
+  pub apart : n < length s → n < length w → getD s n 0 ≡ getD w n 0 → ⊥

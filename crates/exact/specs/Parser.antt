@@ -3,11 +3,14 @@ use mathlib.Core.Path.{_≡_, refl, sym, _∙_, subst}
 use mathlib.Core.Bool.{Bool, true, false}
 use mathlib.Core.List.{List, [], _∷_, _++_}
 use mathlib.Core.Logic.{_⊎_, inl, ⊎-elim, _↔_}
-use Prim.Native.Nat.{ℕ, _+_, _-_, _≤_}
+use Prim.Native.Nat.{ℕ, suc, _+_, _-_, _≤_, _<_}
 use native.Mathlib.Omega.{arith}
-use lib.ListN.{length, take, drop, length-append, length-drop}
+use mir.Syntax.{w8}
+use mir.Val.{Fits}
+use lib.ListN.{length, take, drop, getD, length-append, length-drop, take-append-drop}
 use lib.Seq.{take-all, take-at}
 use Rattle.exact.specs.Claim.{Verdict, accepted, more, refused, AllBytes}
+use Rattle.exact.specs.Ended.{Ended}
 use Rattle.exact.specs.Field.{Field, Begins, Opens, Exact, seq, after}
 use Rattle.exact.specs.Sequence.{begins-more, seq-exact, opens-first}
 use Rattle.exact.specs.Machine.{leaf, Move, go, Runs, run, runs-exact}
@@ -35,6 +38,23 @@ bytes-front (c ∷ s) t x = (x .0, bytes-front s t (x .1))
 pub bytes-back : (s t : List ℕ) → AllBytes (s ++ t) → AllBytes t
 bytes-back [] t x = x
 bytes-back (c ∷ s) t x = bytes-back s t (x .1)
+
+-- a text of bytes, with the byte that ends it
+pub ended-bytes : {A : Type 0} (L : List ℕ → A → Type 0) (end : ℕ) → end < 256 → ((f : List ℕ) (a : A) → L f a → AllBytes f)
+    → (f : List ℕ) (a : A) → Ended L end f a → AllBytes f
+ended-bytes L end small bytes f a l =
+    subst AllBytes (sym (l .split)) (bytes-append (l .text) (end ∷ []) (bytes _ _ (l .whole)) (small, tt))
+
+-- what a slice of bytes holds
+pub bytes-of : (s : List ℕ) → ((i : ℕ) → Fits w8 (getD s i 0)) → AllBytes s
+bytes-of [] h = tt
+bytes-of (c ∷ s) h = (h 0 .fits, bytes-of s (λ i. h (suc i)))
+
+pub bytes-take : (n : ℕ) (s : List ℕ) → AllBytes s → AllBytes (take n s)
+bytes-take n s b = bytes-front (take n s) (drop n s) (subst AllBytes (sym (take-append-drop n s)) b)
+
+pub bytes-drop : (n : ℕ) (s : List ℕ) → AllBytes s → AllBytes (drop n s)
+bytes-drop n s b = bytes-back (take n s) (drop n s) (subst AllBytes (sym (take-append-drop n s)) b)
 
 -- ── the parsers that the laws make ──
 abbrev pub just : {A : Type 0} → A → Parser A

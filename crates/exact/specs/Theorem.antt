@@ -10,7 +10,8 @@ use lib.ListN.{length, take, drop, getD, length-append, take-append-drop}
 use lib.Seq.{take-at, append-snoc, length-take-le, take-suc, split-at}
 use Rattle.exact.specs.Claim.{Verdict, accepted, more, refused, AllBytes, Heads, Live, Claim}
 use Rattle.exact.specs.Field.{Field, Begins, Alive, Opens, Only, Accepts, Refuses, Exact}
-use Rattle.exact.specs.Parser.{Parser, bytes-back, same-exact}
+use Rattle.exact.specs.Machine.{leaf}
+use Rattle.exact.specs.Parser.{Parser, InBytes, bytes-back, same-exact}
 use Rattle.exact.specs.Unique.{fronts, begins-whole, begins-longer, begins-alive, alive-opens, refused-dead, unique-of}
 
 -- two places in one text: the same, or one before the other
@@ -186,3 +187,8 @@ module _ {A : Type 0} (Whole : List ℕ → A → Type 0) (number : List ℕ →
     -- no continuation needs a number of 256 or more
     pub bytes-suffice : (s t : List ℕ) (n : ℕ) (a : A) → Heads Whole n a (s ++ t) → Live Whole s
     bytes-suffice s t n a w = alive-live s (record { more-bytes = t; begins = begins-heads (s ++ t) n a w })
+
+-- an exact verdict on a leaf claims what it should: each of its places has the leaf's number
+pub leaf-claims : {A : Type 0} (k : ℕ) (L : List ℕ → A → Type 0) → InBytes (leaf k L) → (s : List ℕ) {v w : Verdict A} → v ≡ w
+    → Exact (leaf k L) w s → Claim L (λ u. k) v s
+leaf-claims k L in-bytes s {v} e x = claims L (λ u. k) in-bytes v s (rw e x)

@@ -2,8 +2,10 @@
 // No public function has a `requires`.
 ghost use mathlib.Core.Path.{_≡_};
 ghost use Prim.Native.Nat.{ℕ};
+ghost use Rattle.exact.specs.Claim.{Claim};
+ghost use Rattle.exact.specs.Valueless.{Valueless};
 ghost use Rattle.exact.specs.Told.{told};
-ghost use Rattle.exact.specs.Literal.{literal as literalOf};
+ghost use Rattle.exact.specs.Literal.{Common, literal as literalOf};
 
 // What a scan of a field finds.
 pub enum Scan {
@@ -14,22 +16,32 @@ pub enum Scan {
     Refused(usize),
 }
 
-// The bytes of w, one after the other; no bytes are refused at once, since a field has an end.
-pub fn literal(s: &[u8], w: &[u8]) -> Scan
-    ensures { λ r. ⌜ ((k : ℕ) → told k r ≡ literalOf k 0 (now (w .entry)) (now (s .entry))) ⌝ }
+// How many first bytes s and w have in common.
+fn common(s: &[u8], w: &[u8]) -> usize
+    ensures { λ r. ⌜ Common (now (s .entry)) (now (w .entry)) r ⌝ }
 {
+    let most = if w.len() < s.len() { w.len() } else { s.len() };
     let mut i: usize = 0;
-    while i < s.len() {
-        if w.len() <= i {
-            return Scan::Refused(i);
-        }
+    while i < most {
         if s[i] != w[i] {
-            return Scan::Refused(i);
-        }
-        if i + 1 == w.len() {
-            return Scan::Accepted(0, i + 1);
+            return i;
         }
         i += 1;
     }
-    Scan::More
+    i
+}
+
+// The bytes of w, one after the other; where w is empty that is no byte, accepted at once.
+pub fn literal(s: &[u8], w: &[u8]) -> Scan
+    ensures verdict { λ r. ⌜ ((k : ℕ) → told k r ≡ literalOf k 0 (now (w .entry)) (now (s .entry))) ⌝ }
+    ensures claim { λ r. ⌜ ((k : ℕ) → Claim (Valueless (λ f. f ≡ now (w .entry))) (λ u. k) (told k r) (now (s .entry))) ⌝ }
+{
+    let n = common(s, w);
+    if n == w.len() {
+        return Scan::Accepted(0, n);
+    }
+    if n == s.len() {
+        return Scan::More;
+    }
+    Scan::Refused(n)
 }

@@ -1,12 +1,12 @@
 -- For proofs. The field of an address with the byte that ends it, and its exact verdicts.
 use mathlib.Core.Path.{refl}
-use mathlib.Core.List.{List, [], _∷_}
-use Prim.Native.Nat.{ℕ, _<_}
+use mathlib.Core.List.{List, []}
+use Prim.Native.Nat.{ℕ}
 use native.Mathlib.Omega.{arith}
 use Rattle.exact.specs.Claim.{AllBytes}
 use Rattle.exact.specs.Ended.{Ended}
 use Rattle.exact.specs.Machine.{leaf}
-use Rattle.exact.specs.Parser.{Parser, machine, recast, bytes-append}
+use Rattle.exact.specs.Parser.{Parser, machine, recast, ended-bytes}
 use Rattle.ip6.specs.Address.{hexOf, Address, Ending}
 use Rattle.ip6.specs.Bounds.{address-bounds, spelt-bytes}
 use Rattle.ip6.specs.Machine.{start, step}
@@ -14,15 +14,14 @@ use Rattle.ip6.specs.Read.{Good, keeps, runs-address}
 use Rattle.ip6.specs.Complete.{completes}
 use Rattle.ip6.specs.Walk.{address-runs}
 
-pub ended-bytes : (end : ℕ) → end < 256 → (f vs : List ℕ) → Ended Address end f vs → AllBytes f
-ended-bytes end b f vs a =
-    rw (a .split) (bytes-append (a .text) (end ∷ []) (spelt-bytes (a .text) (address-bounds (a .text) vs (a .whole) .spelt)) (b, tt))
+pub address-bytes : (f vs : List ℕ) → Address f vs → AllBytes f
+address-bytes f vs a = spelt-bytes f (address-bounds f vs a .spelt)
 
 abbrev pub ip6 : (k end : ℕ) → Ending end → Parser (List ℕ)
 ip6 k end e =
     recast
     (machine k Good (step end) (completes end e) (keeps end) start ([], refl)
-    (λ f vs r. ended-bytes end (e .byte) f vs (runs-address end f vs r)))
+    (λ f vs r. ended-bytes Address end (e .byte) address-bytes f vs (runs-address end f vs r)))
     (leaf k (Ended Address end))
     (λ f vs. (runs-address end f vs, address-runs end e f vs))
     (λ u j o p. p)

@@ -9,7 +9,7 @@ use lib.ListN.{length, take, drop, take-append-drop}
 use lib.Seq.{length-take-le}
 use Rattle.exact.specs.Ascii.{ascii}
 use Rattle.exact.specs.Claim.{AllBytes}
-use Rattle.exact.specs.Parser.{bytes-front}
+use Rattle.exact.specs.Parser.{bytes-take}
 use Rattle.text.specs.Ip4.{Address as Ip4Address}
 use Rattle.record.specs.declared.Transport.the-variants.{Stream, Datagram}
 use Rattle.record.specs.declared.Kind.{Kind}
@@ -30,9 +30,6 @@ module _ (n : ℕ) (fits : n ≤ 108) (a : List ℕ) (size : length a ≡ 108) w
   front-size : length (take n a) ≡ n
   front-size = length-take-le n a (omega arith)
 
-  front-bytes : AllBytes a → AllBytes (take n a)
-  front-bytes small = bytes-front (take n a) (drop n a) (subst AllBytes (sym (take-append-drop n a)) small)
-
 module _ (word : List ℕ) (k : Kind) (Address : List ℕ → List ℕ → Type 0) (text : List ℕ → List ℕ)
     (says : (a : List ℕ) → length a ≡ addressLength k → AllBytes a → Address (text a) a)
   where
@@ -43,7 +40,7 @@ module _ (word : List ℕ) (k : Kind) (Address : List ℕ → List ℕ → Type 
     front-says : (a : List ℕ) → length a ≡ 108 → AllBytes a → Address (address a) (take (addressLength k) a)
     front-says a size small =
         let fits = address-fits k in
-        says (take (addressLength k) a) (front-size (addressLength k) fits a size) (front-bytes (addressLength k) fits a size small)
+        says (take (addressLength k) a) (front-size (addressLength k) fits a size) (bytes-take (addressLength k) a small)
 
     -- the record that the line of a record says: what the kind does not use is left out
     abbrev spoken : Record → Record

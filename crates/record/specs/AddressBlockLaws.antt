@@ -4,14 +4,12 @@ use mathlib.Core.List.{List, [], _∷_, _++_, append-assoc, append-nil}
 use Prim.Native.Nat.{ℕ, zero, suc, _+_, _-_, _/_, _%_, _≤_, _<_}
 use native.Mathlib.Numerals.{add-one}
 use native.Mathlib.Omega.{arith}
-use mir.Syntax.{w8}
-use mir.Val.{Fits}
 use lib.ListN.{length, take, drop, getD, replicate, length-append, length-drop, take-append-drop}
 use lib.Seq.{length-take-le, take-at, drop-at, take-add, take-length, drop-cons, getD-append-add}
 use Rattle.exact.specs.Claim.{AllBytes}
 use Rattle.exact.specs.Network.{network}
 use Rattle.exact.specs.Byte.{zeros}
-use Rattle.exact.specs.Parser.{bytes-append, bytes-front, bytes-back}
+use Rattle.exact.specs.Parser.{bytes-append, bytes-take, bytes-drop}
 use Rattle.record.specs.declared.Kind.{Kind}
 use Rattle.record.specs.declared.Kind.the-variants.{Local, Unspecified, Ip4, Ip6, Unix}
 use Rattle.record.specs.declared.Record.{Record}
@@ -51,17 +49,6 @@ block-size r s d =
     simp length-append (omega arith)
 
 -- ── bytes ──
--- what a slice of bytes holds
-pub bytes-of : (s : List ℕ) → ((i : ℕ) → Fits w8 (getD s i 0)) → AllBytes s
-bytes-of [] h = tt
-bytes-of (c ∷ s) h = (h 0 .fits, bytes-of s (λ i. h (suc i)))
-
-pub bytes-take : (n : ℕ) (s : List ℕ) → AllBytes s → AllBytes (take n s)
-bytes-take n s b = bytes-front (take n s) (drop n s) (subst AllBytes (sym (take-append-drop n s)) b)
-
-pub bytes-drop : (n : ℕ) (s : List ℕ) → AllBytes s → AllBytes (drop n s)
-bytes-drop n s b = bytes-back (take n s) (drop n s) (subst AllBytes (sym (take-append-drop n s)) b)
-
 pub byte-at : (s : List ℕ) (i : ℕ) → AllBytes s → getD s i 0 < 256
 byte-at [] i b = omega arith
 byte-at (c ∷ s) zero b = b .0

@@ -9,6 +9,7 @@ use borrow.Author.Tests.{eqb-true, ltb-false, leb-true, leb-false}
 use lib.Dec.{eqb, ltb, leb}
 use lib.ListN.{length, drop, getD, length-drop}
 use Rattle.exact.specs.Claim.{AllBytes}
+use Rattle.exact.specs.Parser.{bytes-drop}
 use Rattle.exact.specs.Pick.{pick-by, both}
 use Rattle.record.specs.declared.Transport.the-variants.{Stream}
 use Rattle.record.specs.declared.Kind.{Kind}
@@ -19,7 +20,7 @@ use Rattle.record.specs.Records.{Clean, Sized}
 use Rattle.record.specs.Unused.{cleanTest}
 use Rattle.record.specs.UnusedLaws.{clean-test}
 use Rattle.record.specs.AddressBlock.{blockRecord}
-use Rattle.record.specs.AddressBlockLaws.{block-size, bytes-drop, record-again, block-again, block-clean, block-sized}
+use Rattle.record.specs.AddressBlockLaws.{block-size, record-again, block-again, block-clean, block-sized}
 use Rattle.answer.specs.Answers.{WriteAnswer, wrote, refuses, outputAfter}
 use Rattle.answer.specs.OutputLaws.{written-front}
 use Rattle.store.specs.Stored.{kindOf, stored, storeAnswer}

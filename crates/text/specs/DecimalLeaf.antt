@@ -12,11 +12,11 @@ use Rattle.exact.specs.Claim.{Verdict, AllBytes}
 use Rattle.exact.specs.Field.{Exact}
 use Rattle.exact.specs.Machine.{leaf, Move, go, done, dead, Sound, run, machine-exact}
 use Rattle.exact.specs.Pick.{pick, pick-by}
-use Rattle.exact.specs.Parser.{Parser}
+use Rattle.exact.specs.Parser.{Parser, ended-bytes}
 use Rattle.exact.specs.Ended.{Ended}
 use Rattle.text.specs.Decimal.{Digit, Digits, Plain, valueOn, Decimal}
 use Rattle.text.specs.Verdicts.{Within, Keeps, run-within}
-use Rattle.text.specs.Endings.{ended-solid, ended-first, ended-more, ended-last, ended-bytes, ended-map}
+use Rattle.text.specs.Endings.{ended-solid, ended-first, ended-more, ended-last, ended-map}
 
 -- ── the machine ──
 -- nothing yet, or digits that make a number

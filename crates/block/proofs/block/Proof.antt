@@ -31,7 +31,7 @@ module _ (c : tie.After-literal) where
   text = c .before .before .before .args .s .now
 
   found : (x : Scan) → c .literal .result ≡ x → told 1 x ≡ signatureField .verdict text
-  found x e = ap (told 1) (sym e) ∙ c .literal .ensures 1
+  found x e = ap (told 1) (sym e) ∙ c .literal .ensures .0 1
 
 returns : tie.Need-returns
 returns c =

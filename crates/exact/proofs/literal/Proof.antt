@@ -1,114 +1,111 @@
--- `literal` answers as the literal leaf's machine: the loop's invariant is that the verdict is the one from the index i on.
-use Prim.Native.Nat.{ℕ, _+_, _≤_, _<_, _-_}
-use mathlib.Core.Path.{_≡_, sym, _∙_}
-use mathlib.Core.List.{List}
+-- `literal` goes by the bytes that s and w have in common; its claim is that of an exact verdict on a leaf.
+use Prim.Native.Nat.{ℕ, zero, suc, _+_, _-_, _≤_, _<_}
+use mathlib.Core.Path.{_≡_, sym, ap, _∙_}
+use mathlib.Core.List.{List, [], _∷_}
+use native.Mathlib.Numerals.{add-one}
 use native.Mathlib.Omega.{arith}
-use lib.ListN.{length, getD, drop, drop-of-length-le}
-use Rattle.exact.specs.Claim.{refused, accepted}
-use Rattle.exact.specs.Machine.{dead, from, from-start, from-end, from-go, from-done, from-dead}
-use Rattle.exact.specs.Literal.{literal, stepLiteral, lit-dead, lit-done, lit-go}
+use lib.ListN.{length, drop, getD, drop-of-length-le}
+use lib.Seq.{drop-cons}
+use borrow.Author.Tests.{eq-eqb, ne-eqb}
+use borrow.Author.Needs.{needs}
+use Rattle.exact.specs.Claim.{Verdict, accepted, more, refused, Claim}
+use Rattle.exact.specs.Machine.{Move, go, done, dead, from, from-start, from-end, from-go, from-done, from-dead}
+use Rattle.exact.specs.Parser.{bytes-of}
+use Rattle.exact.specs.Literal.{Common, Literal, literal, stepLiteral, literal-exact}
+use Rattle.exact.specs.Theorem.{leaf-claims}
 use Rattle.exact.proofs.literal.Statement.{statement}
 use Rattle.exact.proofs.literal.Tie as tie
-use Rattle.exact.proofs.literal.Reads as reads
-use Rattle.exact.proofs.literal.Lts as lts
 
-abbrev Inv-loop : tie.InvT-loop
-Inv-loop s w i₀ i = (i ≤ length s) × ((k : ℕ) → literal {A = ℕ} k 0 w s ≡ from k (stepLiteral 0) s i (drop i w))
+abbrev step : List ℕ → ℕ → Move (List ℕ) ℕ
+step = stepLiteral 0
 
-abbrev μ-loop : tie.MeasureT-loop
-μ-loop s w i₀ i = length s - i
+abbrev verdict : ℕ → List ℕ → List ℕ → Verdict ℕ
+verdict k = literal k 0
 
-abbrev In : Type 0
-In = lts.After-shared-slice-known2 reads.Pre reads.Post Inv-loop μ-loop
+-- ── the machine in the word w, at its byte i ──
+module _ (w : List ℕ) (i c : ℕ) (h : i < length w) where
+  word-dead : (c ≡ getD w i 0 → ⊥) → step (drop i w) c ≡ dead
+  word-dead n = rw (drop-cons w i 0 h, stepLiteral) (simp (ne-eqb c (getD w i 0) n))
 
-module _ (l : In) (k : ℕ) where
+  word-done : c ≡ getD w i 0 → i + 1 ≡ length w → step (drop i w) c ≡ done 0
+  word-done e l =
+      let last : drop (suc i) w ≡ [] = drop-of-length-le w {i = suc i} (omega arith) in
+      rw (drop-cons w i 0 h) (simp (eq-eqb c (getD w i 0) e, last))
+
+  word-go : c ≡ getD w i 0 → (i + 1 ≡ length w → ⊥) → step (drop i w) c ≡ go (drop (i + 1) w)
+  word-go e l =
+      let next : drop (suc i) w ≡ getD w (suc i) 0 ∷ drop (suc (suc i)) w = drop-cons w (suc i) 0 (omega arith) in
+      rw (add-one, drop-cons w i 0 h, next) (simp (eq-eqb c (getD w i 0) e))
+
+-- ── the verdict, by the bytes in common ──
+module _ (k : ℕ) (s : List ℕ) (n : ℕ) where
+  -- the machine goes on in them
+  reach : (w : List ℕ) → Common s w n → (i : ℕ) → i ≤ n → i < length w → verdict k w s ≡ from k step s i (drop i w)
+  reach [] c i h l = absurd (omega arith)
+  reach (x ∷ w) c zero h l = from-start k step s (x ∷ w)
+  reach (x ∷ w) c (suc i) h l =
+      let in-s = c .in-s in
+      reach (x ∷ w) c i (omega arith) (omega arith)
+      ∙ from-go k step s i (drop i (x ∷ w)) (drop (i + 1) (x ∷ w)) (omega arith)
+      (word-go (x ∷ w) i (getD s i 0) (omega arith) (c .same i (omega arith)) (λ e. omega arith))
+      ∙ rw (add-one i)
+
+  word-all : (w : List ℕ) → Common s w n → n ≡ length w → accepted 0 n ≡ verdict k w s
+  word-all [] c e = ap (accepted 0) e
+  word-all (x ∷ w) c e =
+      let in-s = c .in-s in
+      let last : n - 1 + 1 ≡ n = omega arith in
+      sym
+      (reach (x ∷ w) c (n - 1) (omega arith) (omega arith)
+      ∙ from-done k step s (n - 1) (drop (n - 1) (x ∷ w)) 0 (omega arith)
+      (word-done (x ∷ w) (n - 1) (getD s (n - 1) 0) (omega arith) (c .same (n - 1) (omega arith)) (omega arith))
+      ∙ ap (accepted 0) last)
+
+  module _ (w : List ℕ) (c : Common s w n) (part : n ≡ length w → ⊥) where
+    word-more : n ≡ length s → more ≡ verdict k w s
+    word-more e =
+        let in-w = c .in-w in
+        sym (reach w c n (omega arith) (omega arith) ∙ from-end k step s n (drop n w) (omega arith))
+
+    word-refused : (n ≡ length s → ⊥) → refused k n ≡ verdict k w s
+    word-refused e =
+        let in-w = c .in-w in
+        let in-s = c .in-s in
+        sym
+        (reach w c n (omega arith) (omega arith)
+        ∙ from-dead k step s n (drop n w) (omega arith)
+        (word-dead w n (getD s n 0) (omega arith) (c .apart (omega arith) (omega arith))))
+
+-- ── the function ──
+module _ (c : tie.After-common) where
   abbrev text : List ℕ
-  text = l .before .before .before .before .before .args .s .now
+  text = c .before .before .before .args .s .now
 
   abbrev word : List ℕ
-  word = l .before .before .before .before .before .args .w .now
+  word = c .before .before .before .args .w .now
 
-  abbrev at : ℕ
-  at = l .before .before .before .before .loop .i
-
-  abbrev so-far : literal {A = ℕ} k 0 word text ≡ from k (stepLiteral 0) text at (drop at word)
-  so-far = l .before .before .before .before .loop .inv .1 k
-
-  abbrev inside : at < length text
-  inside = l .before .before .before .loop-test .taken
-
-  abbrev within : at < length word
-  within = l .before .before .if1 .left
-
-  dies : (getD text at 0 ≡ getD word at 0 → ⊥) → refused k at ≡ literal {A = ℕ} k 0 word text
-  dies n = sym (so-far ∙ from-dead k (stepLiteral 0) text at (drop at word) inside (lit-dead 0 word at _ within n))
-
-  ends : getD text at 0 ≡ getD word at 0 → at + 1 ≡ length word → accepted 0 (at + 1) ≡ literal {A = ℕ} k 0 word text
-  ends e h = sym (so-far ∙ from-done k (stepLiteral 0) text at (drop at word) 0 inside (lit-done 0 word at _ within e h))
-
-  goes : getD text at 0 ≡ getD word at 0 → (at + 1 ≡ length word → ⊥)
-      → literal {A = ℕ} k 0 word text ≡ from k (stepLiteral 0) text (at + 1) (drop (at + 1) word)
-  goes e h = so-far ∙ from-go k (stepLiteral 0) text at (drop at word) (drop (at + 1) word) inside (lit-go 0 word at _ within e h)
-
-past : (w : List ℕ) (i c : ℕ) → length w ≤ i → stepLiteral {A = ℕ} 0 (drop i w) c ≡ dead
-past w i c h = rw (drop-of-length-le w h)
-
-loop-holds : tie.Need-loop-holds Inv-loop μ-loop
-loop-holds c = (omega arith, λ k. from-start k (stepLiteral 0) (c .args .s .now) (c .args .w .now))
-
-returns : tie.Need-returns Inv-loop μ-loop
-returns c =
+  -- a verdict, with its claim
+  answered : {v : ℕ → Verdict ℕ} → ((k : ℕ) → v k ≡ verdict k word text)
+      → ((k : ℕ) → v k ≡ verdict k word text) × ((k : ℕ) → Claim (Literal 0 word) (λ u. k) (v k) text)
+  answered e = (
+    e,
     λ k.
-    sym
-    (c .before .before .loop .inv .1 k
-    ∙ from-dead k (stepLiteral 0) (c .before .before .before .args .s .now) (c .before .before .loop .i) _ (c .before .loop-test .taken)
-    (past (c .before .before .before .args .w .now) (c .before .before .loop .i) _ (c .if1 .taken)))
+        leaf-claims k (Literal 0 word) (λ f a l. rw (l .0) (bytes-of word (c .before .shared-slice-known2 .given))) text (e k)
+        (literal-exact k 0 word text),
+  )
 
-shared-slice-read-if2 : tie.Need-shared-slice-read-if2 Inv-loop μ-loop
-shared-slice-read-if2 c = omega arith
+returns : tie.Need-returns
+returns c = let ran = c .before in answered ran (λ k. word-all k (text ran) _ (word ran) (ran .common .ensures) (c .if1 .taken))
 
-shared-slice-read-if2-2 : tie.Need-shared-slice-read-if2-2 Inv-loop μ-loop
-shared-slice-read-if2-2 c = omega arith
+returns-2 : tie.Need-returns-2
+returns-2 c =
+    let ran = c .before .before in
+    answered ran (λ k. word-more k (text ran) _ (word ran) (ran .common .ensures) (c .before .if1 .left) (c .if2 .taken))
 
-returns-2 : tie.Need-returns-2 Inv-loop μ-loop
-returns-2 c = λ k. dies (c .before) k (c .if2 .taken)
-
-add-if3 : tie.Need-add-if3 Inv-loop μ-loop
-add-if3 c = omega arith
-
-add-t11 : tie.Need-add-t11 Inv-loop μ-loop
-add-t11 c = omega arith
-
-returns-3 : tie.Need-returns-3 Inv-loop μ-loop
-returns-3 c = λ k. ends (c .before .before) k (c .before .if2 .left) (c .if3 .taken)
-
-add-i : tie.Need-add-i Inv-loop μ-loop
-add-i c = omega arith
-
-loop-less : tie.Need-loop-less Inv-loop μ-loop
-loop-less c = omega arith
-
-loop-again : tie.Need-loop-again Inv-loop μ-loop
-loop-again c = (omega arith, λ k. goes (c .before .before) k (c .before .if2 .left) (c .if3 .left))
-
-returns-4 : tie.Need-returns-4 Inv-loop μ-loop
-returns-4 c = λ k. sym (c .before .loop .inv .1 k ∙ from-end k (stepLiteral 0) (c .before .before .args .s .now) _ _ (c .loop-test .left))
+returns-3 : tie.Need-returns-3
+returns-3 c =
+    let ran = c .before .before in
+    answered ran (λ k. word-refused k (text ran) _ (word ran) (ran .common .ensures) (c .before .if1 .left) (c .if2 .left))
 
 pub literal-spec : {M : Type 1} → statement M
-literal-spec =
-    tie.close
-    (tie.spec
-    Inv-loop
-    μ-loop
-    loop-holds
-    returns
-    shared-slice-read-if2
-    shared-slice-read-if2-2
-    returns-2
-    add-if3
-    add-t11
-    returns-3
-    add-i
-    loop-less
-    loop-again
-    returns-4)
+literal-spec = tie.close (tie.spec (λ c κs. search needs) returns returns-2 returns-3)

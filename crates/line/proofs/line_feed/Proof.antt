@@ -27,7 +27,7 @@ module _ (c : tie.After-literal) where
   says x = just (lined (callerRecord (c .before .before .before .before .args .caller)))
 
   found : (x : Scan) → c .literal .result ≡ x → told 5 x ≡ lfField .verdict (drop at text)
-  found x e = said 5 (lfField .verdict) text at e (c .literal .ensures 5)
+  found x e = said 5 (lfField .verdict) text at e (c .literal .ensures .0 5)
 
 add-refused : tie.Need-add-refused
 add-refused c = let ran = c .before .before .before in let h = stage-place lfField (text ran) (at ran) (ran .before .before .before .before .pre .0) 5 _ (found ran _ (c .before .place .given .1)) in omega arith

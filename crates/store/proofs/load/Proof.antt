@@ -12,7 +12,8 @@ use Rattle.exact.specs.Parser.{tail-all}
 use Rattle.record.specs.declared.Family.{Family}
 use Rattle.record.specs.Told.{toldFamily}
 use Rattle.record.specs.AddressBlock.{blockRecord}
-use Rattle.record.specs.AddressBlockLaws.{address-fits, port-fits, bytes-of}
+use Rattle.exact.specs.Parser.{bytes-of}
+use Rattle.record.specs.AddressBlockLaws.{address-fits, port-fits}
 use Rattle.store.specs.declared.Outcome.the-variants.{Accepted}
 use Rattle.store.specs.declared.Loaded.{Loaded}
 use Rattle.store.specs.Stored.{kindOf}
