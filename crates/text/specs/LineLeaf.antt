@@ -13,6 +13,7 @@ use Rattle.exact.specs.Field.{Exact}
 use Rattle.exact.specs.Machine.{leaf, Move, go, done, dead, Sound, run, machine-exact}
 use Rattle.exact.specs.Pick.{pick, pick-by}
 use Rattle.exact.specs.Parser.{Parser, bytes-append}
+use Rattle.exact.specs.Valueless.{Valueless}
 use Rattle.text.specs.Line.{NoEnd, FirstEnd}
 
 -- ── the machine ──
@@ -36,9 +37,8 @@ abbrev pub lineVerdict : (k limit : ℕ) → List ℕ → Verdict ℕ
 lineVerdict k limit s = run k stepLine s (line false limit)
 
 -- ── the first byte of a line ──
--- the field's value is 0
 abbrev pub LineEnd : ℕ → List ℕ → ℕ → Type 0
-LineEnd limit f a = FirstEnd limit f × (a ≡ 0)
+LineEnd limit = Valueless (FirstEnd limit)
 
 pub no-end-more : (c : ℕ) (s : List ℕ) → NoEnd s → ((y : List ℕ) → c ≡ 13 → s ≡ 10 ∷ y → ⊥) → NoEnd (c ∷ s)
 no-end-more c s none apart x y e = by x e

@@ -2,9 +2,15 @@
 // No public function has a `requires`.
 use exact::Scan;
 ghost use mathlib.Core.Path.{_≡_};
-ghost use Prim.Native.Nat.{ℕ};
+ghost use Prim.Native.Nat.{ℕ, _≤_};
 ghost use lib.ListN.{replicate};
+ghost use Rattle.exact.specs.Claim.{Claim};
+ghost use Rattle.exact.specs.Ended.{Ended};
+ghost use Rattle.exact.specs.Valueless.{Valueless};
 ghost use Rattle.exact.specs.Told.{told};
+ghost use Rattle.text.specs.Decimal.{Digit, Decimal};
+ghost use Rattle.text.specs.Ip4.{Address};
+ghost use Rattle.text.specs.Line.{FirstEnd};
 ghost use Rattle.text.specs.Told.{toldOctets, Unused};
 ghost use Rattle.text.specs.DecimalLeaf.{digit, decimalVerdict};
 ghost use Rattle.text.specs.Grows.{moveOf};
@@ -35,9 +41,11 @@ fn grow(n: u32, c: u8, bound: u32) -> Grown
     }
 }
 
-// A decimal number up to the bound, with no leading zero, that the byte end ends.
+// A decimal number up to the bound, with no leading zero, that the byte end ends. An end that is a digit ends the number where it
+// first stands behind another digit.
 pub fn decimal(s: &[u8], bound: u32, end: u8) -> Scan
-    ensures { λ r. ⌜ ((k : ℕ) → told k r ≡ decimalVerdict k bound end (now (s .entry))) ⌝ }
+    ensures verdict { λ r. ⌜ ((k : ℕ) → told k r ≡ decimalVerdict k bound end (now (s .entry))) ⌝ }
+    ensures claim { λ r. ⌜ ((k : ℕ) → (Digit end → ⊥) → Claim (Ended (Decimal bound) end) (λ u. k) (told k r) (now (s .entry))) ⌝ }
 {
     if s.len() == 0 {
         return Scan::More;
@@ -80,10 +88,11 @@ fn without(scan: Scan) -> Octets
     }
 }
 
-// Four decimals up to 255, each ended by a dot and the last by the byte end.
+// Four decimals up to 255, as `decimal` reads them: each ended by a dot, and the last by the byte end.
 pub fn ip4(s: &[u8], end: u8) -> Octets
     ensures verdict { λ r. ⌜ ((k : ℕ) → toldOctets k r ≡ ip4Verdict k end (now (s .entry))) ⌝ }
     ensures unused { λ r. ⌜ Unused (r .scan) (r .octets) ⌝ }
+    ensures claim { λ r. ⌜ ((k : ℕ) → (Digit end → ⊥) → Claim (Ended Address end) (λ u. k) (toldOctets k r) (now (s .entry))) ⌝ }
 {
     let mut octets = [0u8; 4];
     let mut at: usize = 0;
@@ -108,9 +117,11 @@ pub fn ip4(s: &[u8], end: u8) -> Octets
     }
 }
 
-// The end of a line of at most limit bytes: the first CR followed by LF. A byte behind which no end fits is refused.
+// The end of a line of at most limit bytes: the first CR followed by LF. A byte behind which no end fits is refused. No end fits into 0 or 1
+// bytes: then the first byte is refused, and before it the answer is More.
 pub fn line_end(s: &[u8], limit: usize) -> Scan
-    ensures { λ r. ⌜ ((k : ℕ) → told k r ≡ lineVerdict k limit (now (s .entry))) ⌝ }
+    ensures verdict { λ r. ⌜ ((k : ℕ) → told k r ≡ lineVerdict k limit (now (s .entry))) ⌝ }
+    ensures claim { λ r. ⌜ ((k : ℕ) → 2 ≤ limit → Claim (Valueless (FirstEnd limit)) (λ u. k) (told k r) (now (s .entry))) ⌝ }
 {
     let mut i: usize = 0;
     let mut cr = false;

@@ -32,7 +32,7 @@ module _ (c : tie.After-line-end) where
   rest x = just (lined (bare Unspecified))
 
   found : (x : Scan) → c .line-end .result ≡ x → told 5 x ≡ restField .verdict (drop at text)
-  found x e = said 5 (restField .verdict) text at e (c .line-end .ensures 5)
+  found x e = said 5 (restField .verdict) text at e (c .line-end .ensures .0 5)
 
 add-refused : tie.Need-add-refused
 add-refused c = let ran = c .before .before .before in let h = stage-place restField (text ran) (at ran) (start ran .pre) 5 _ (found ran _ (c .before .place .given .1)) in omega arith

@@ -5,9 +5,12 @@ use mathlib.Core.List.{List, [], _∷_}
 use native.Mathlib.Omega.{arith}
 use borrow.Author.Needs.{needs}
 use lib.ListN.{length, getD}
-use Rattle.exact.specs.Claim.{refused, accepted, more}
+use Rattle.exact.specs.Claim.{Verdict, refused, accepted, more, Claim}
+use Rattle.exact.specs.Ended.{Ended}
 use Rattle.exact.specs.Machine.{Move, run, go, done, dead, from, from-start, from-end, from-go, from-done, from-dead}
-use Rattle.text.specs.DecimalLeaf.{At, decimalVerdict, stepDecimal, start, behind, behind-end, behind-zero, behind-digit}
+use Rattle.exact.specs.Theorem.{leaf-claims}
+use Rattle.text.specs.Decimal.{Digit, Decimal}
+use Rattle.text.specs.DecimalLeaf.{At, decimal, decimalVerdict, stepDecimal, start, behind, behind-end, behind-zero, behind-digit}
 use Rattle.text.specs.declared.Grown.{Grown}
 use Rattle.text.specs.declared.Grown.the-variants.{Number, Dead}
 use Rattle.text.specs.Grows.{moveOf}
@@ -21,6 +24,26 @@ Inv-loop s bound end first n₀ i₀ n i =
 abbrev μ-loop : tie.MeasureT-loop
 μ-loop s bound end first n₀ i₀ n i = length s - i
 
+-- a verdict, with its claim
+module _ (c : tie.Start Inv-loop μ-loop) where
+  abbrev whole : List ℕ
+  whole = c .args .s .now
+
+  abbrev most : ℕ
+  most = c .args .bound
+
+  abbrev stop : ℕ
+  stop = c .args .end
+
+  answered : {v : ℕ → Verdict ℕ} → ((k : ℕ) → v k ≡ decimalVerdict k most stop whole)
+      → ((k : ℕ) → v k ≡ decimalVerdict k most stop whole) × ((k : ℕ) → (Digit stop → ⊥) → Claim (Ended (Decimal most) stop) (λ u. k) (v k) whole)
+  answered e = (
+    e,
+    λ k apart.
+        let p = decimal k most stop apart (c .fits .end .fits) in
+        leaf-claims k (Ended (Decimal most) stop) (p .bytes) whole (e k) (p .exact whole),
+  )
+
 no-bytes : (k : ℕ) (step : At → ℕ → Move At ℕ) (s : List ℕ) → length s ≡ 0 → more ≡ run k step s start
 no-bytes k step [] h = refl
 no-bytes k step (c ∷ s) h = absurd (omega arith)
@@ -29,12 +52,15 @@ no-bytes k step (c ∷ s) h = absurd (omega arith)
 abbrev First : Type 0
 First = tie.After-grow Inv-loop μ-loop
 
-module _ (l : First) (k : ℕ) where
+abbrev entry : First → tie.Start Inv-loop μ-loop
+entry l = l .before .before .before .before
+
+module _ (l : First) where
   abbrev text₀ : List ℕ
-  text₀ = l .before .before .before .before .args .s .now
+  text₀ = whole (entry l)
 
   abbrev step₀ : At → ℕ → Move At ℕ
-  step₀ = stepDecimal (l .before .before .before .before .args .bound) (l .before .before .before .before .args .end)
+  step₀ = stepDecimal (most (entry l)) (stop (entry l))
 
   some : 0 < length text₀
   some = let h = l .before .before .if1 .left in omega arith
@@ -42,17 +68,18 @@ module _ (l : First) (k : ℕ) where
   move₀ : (r : Grown) → l .grow .result ≡ r → step₀ start (getD text₀ 0 0) ≡ moveOf r
   move₀ r e = sym (l .grow .ensures) ∙ ap moveOf e
 
-  dies-first : l .grow .result ≡ Dead → refused k 0 ≡ run k step₀ text₀ start
-  dies-first e = sym (from-start k step₀ text₀ start ∙ from-dead k step₀ text₀ 0 start some (move₀ Dead e))
+  module _ (k : ℕ) where
+    dies-first : l .grow .result ≡ Dead → refused k 0 ≡ run k step₀ text₀ start
+    dies-first e = sym (from-start k step₀ text₀ start ∙ from-dead k step₀ text₀ 0 start some (move₀ Dead e))
 
-  goes-first : (n : ℕ) → l .grow .result ≡ Number n → run k step₀ text₀ start ≡ from k step₀ text₀ 1 (behind n)
-  goes-first n e = from-start k step₀ text₀ start ∙ from-go k step₀ text₀ 0 start (behind n) some (move₀ (Number n) e)
+    goes-first : (n : ℕ) → l .grow .result ≡ Number n → run k step₀ text₀ start ≡ from k step₀ text₀ 1 (behind n)
+    goes-first n e = from-start k step₀ text₀ start ∙ from-go k step₀ text₀ 0 start (behind n) some (move₀ (Number n) e)
 
 -- ── a turn of the loop ──
 abbrev Turn : Type 0
 Turn = tie.After-shared-slice-known3 Inv-loop μ-loop
 
-module _ (l : Turn) (k : ℕ) where
+module _ (l : Turn) where
   abbrev so-far : tie.At-loop Inv-loop μ-loop
   so-far = l .before .before
 
@@ -60,10 +87,10 @@ module _ (l : Turn) (k : ℕ) where
   begun = so-far .before .before .before .before
 
   abbrev text : List ℕ
-  text = text₀ begun k
+  text = text₀ begun
 
   abbrev step : At → ℕ → Move At ℕ
-  step = step₀ begun k
+  step = step₀ begun
 
   abbrev at : ℕ
   at = so-far .loop .i
@@ -71,67 +98,53 @@ module _ (l : Turn) (k : ℕ) where
   abbrev number : ℕ
   number = so-far .loop .n
 
-  dies : step (behind number) (getD text at 0) ≡ dead → refused k at ≡ run k step text start
-  dies e = sym (so-far .loop .inv .1 k ∙ from-dead k step text at (behind number) (l .before .loop-test .taken) e)
+  module _ (k : ℕ) where
+    dies : step (behind number) (getD text at 0) ≡ dead → refused k at ≡ run k step text start
+    dies e = sym (so-far .loop .inv .1 k ∙ from-dead k step text at (behind number) (l .before .loop-test .taken) e)
 
-  ends : step (behind number) (getD text at 0) ≡ done number → accepted number (at + 1) ≡ run k step text start
-  ends e = sym (so-far .loop .inv .1 k ∙ from-done k step text at (behind number) number (l .before .loop-test .taken) e)
+    ends : step (behind number) (getD text at 0) ≡ done number → accepted number (at + 1) ≡ run k step text start
+    ends e = sym (so-far .loop .inv .1 k ∙ from-done k step text at (behind number) number (l .before .loop-test .taken) e)
 
-  goes : (n : ℕ) → step (behind number) (getD text at 0) ≡ go (behind n) → run k step text start ≡ from k step text (at + 1) (behind n)
-  goes n e = so-far .loop .inv .1 k ∙ from-go k step text at (behind number) (behind n) (l .before .loop-test .taken) e
+    goes : (n : ℕ) → step (behind number) (getD text at 0) ≡ go (behind n) → run k step text start ≡ from k step text (at + 1) (behind n)
+    goes n e = so-far .loop .inv .1 k ∙ from-go k step text at (behind number) (behind n) (l .before .loop-test .taken) e
 
 abbrev Grew : Type 0
 Grew = tie.After-grow2 Inv-loop μ-loop
 
-move : (l : Grew) (k : ℕ) (r : Grown) → l .grow2 .result ≡ r
-    → step (l .before .before .before) k (behind (number (l .before .before .before) k)) (getD (text (l .before .before .before) k) (at (l .before .before .before) k) 0) ≡ moveOf r
-move l k r e = behind-digit _ _ _ _ (l .before .before .if2 .left) (l .before .if3 .left) ∙ sym (l .grow2 .ensures) ∙ ap moveOf e
+module _ (l : Grew) where
+  abbrev turn : Turn
+  turn = l .before .before .before
+
+  move : (r : Grown) → l .grow2 .result ≡ r → step turn (behind (number turn)) (getD (text turn) (at turn) 0) ≡ moveOf r
+  move r e = behind-digit _ _ _ _ (l .before .before .if2 .left) (l .before .if3 .left) ∙ sym (l .grow2 .ensures) ∙ ap moveOf e
 
 -- ── what is asked ──
 returns : tie.Need-returns Inv-loop μ-loop
-returns c = λ k. no-bytes k (stepDecimal (c .before .before .args .bound) (c .before .before .args .end)) (c .before .before .args .s .now) (c .if1 .taken)
-
-shared-slice-read-grow : tie.Need-shared-slice-read-grow Inv-loop μ-loop
-shared-slice-read-grow c = search needs
-
-grow-requires : tie.Need-grow-requires Inv-loop μ-loop
-grow-requires c κs = search needs
-
-enum-known-first : tie.Need-enum-known-first Inv-loop μ-loop
-enum-known-first c = search needs
-
-enum-told : tie.Need-enum-told Inv-loop μ-loop
-enum-told c = search needs
+returns c =
+    let start = c .before .before in
+    answered start (λ k. no-bytes k (stepDecimal (most start) (stop start)) (whole start) (c .if1 .taken))
 
 returns-2 : tie.Need-returns-2 Inv-loop μ-loop
-returns-2 c = λ k. dies-first (c .before .before) k (c .enum-told .given .1)
+returns-2 c = answered (entry (c .before .before)) (λ k. dies-first (c .before .before) k (c .enum-told .given .1))
 
 loop-holds : tie.Need-loop-holds Inv-loop μ-loop
-loop-holds c = (some (c .before .before .before) 0, λ k. goes-first (c .before .before .before) k _ (c .before .first .given .1))
-
-shared-slice-read-c : tie.Need-shared-slice-read-c Inv-loop μ-loop
-shared-slice-read-c c = search needs
+loop-holds c = (some (c .before .before .before), λ k. goes-first (c .before .before .before) k _ (c .before .first .given .1))
 
 add-t18 : tie.Need-add-t18 Inv-loop μ-loop
 add-t18 c = omega arith
 
 returns-3 : tie.Need-returns-3 Inv-loop μ-loop
-returns-3 c = λ k. ends (c .before) k (behind-end _ _ _ _ (c .if2 .taken))
+returns-3 c = answered (entry (begun (c .before))) (λ k. ends (c .before) k (behind-end _ _ _ _ (c .if2 .taken)))
 
 returns-4 : tie.Need-returns-4 Inv-loop μ-loop
-returns-4 c = λ k. dies (c .before .before) k (behind-zero _ _ _ _ (c .before .if2 .left) (c .if3 .taken))
-
-grow-requires-2 : tie.Need-grow-requires-2 Inv-loop μ-loop
-grow-requires-2 c κs = search needs
-
-enum-known-m : tie.Need-enum-known-m Inv-loop μ-loop
-enum-known-m c = search needs
-
-enum-told-2 : tie.Need-enum-told-2 Inv-loop μ-loop
-enum-told-2 c = search needs
+returns-4 c =
+    answered (entry (begun (c .before .before)))
+    (λ k. dies (c .before .before) k (behind-zero _ _ _ _ (c .before .if2 .left) (c .if3 .taken)))
 
 returns-5 : tie.Need-returns-5 Inv-loop μ-loop
-returns-5 c = λ k. dies (c .before .before .before .before .before) k (move (c .before .before) k Dead (c .enum-told2 .given .1))
+returns-5 c =
+    let grew : Grew = c .before .before in
+    answered (entry (begun (turn grew))) (λ k. dies (turn grew) k (move grew Dead (c .enum-told2 .given .1)))
 
 add-i : tie.Need-add-i Inv-loop μ-loop
 add-i c = omega arith
@@ -140,10 +153,14 @@ loop-less : tie.Need-loop-less Inv-loop μ-loop
 loop-less c = omega arith
 
 loop-again : tie.Need-loop-again Inv-loop μ-loop
-loop-again c = (omega arith, λ k. goes (c .before .before .before .before .before .before) k _ (move (c .before .before .before) k (Number (c .before .m .given .0 .0)) (c .before .m .given .1)))
+loop-again c =
+    let grew : Grew = c .before .before .before in
+    (omega arith, λ k. goes (turn grew) k _ (move grew (Number (c .before .m .given .0 .0)) (c .before .m .given .1)))
 
 returns-6 : tie.Need-returns-6 Inv-loop μ-loop
-returns-6 c = λ k. sym (c .before .loop .inv .1 k ∙ from-end k _ _ _ _ (c .loop-test .left))
+returns-6 c =
+    answered (entry (c .before .before .before .before .before))
+    (λ k. sym (c .before .loop .inv .1 k ∙ from-end k _ _ _ _ (c .loop-test .left)))
 
 pub decimal-spec : {M : Type 1} → statement M
 decimal-spec =
@@ -152,19 +169,19 @@ decimal-spec =
     Inv-loop
     μ-loop
     returns
-    shared-slice-read-grow
-    grow-requires
-    enum-known-first
-    enum-told
+    (λ c. search needs)
+    (λ c κs. search needs)
+    (λ c. search needs)
+    (λ c. search needs)
     returns-2
     loop-holds
-    shared-slice-read-c
+    (λ c. search needs)
     add-t18
     returns-3
     returns-4
-    grow-requires-2
-    enum-known-m
-    enum-told-2
+    (λ c κs. search needs)
+    (λ c. search needs)
+    (λ c. search needs)
     returns-5
     add-i
     loop-less

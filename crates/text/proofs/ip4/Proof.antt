@@ -10,14 +10,19 @@ use lib.ListN.{replicate, length, drop, length-drop, length-set}
 use borrow.Author.Tests.{eq-eqb, ne-eqb}
 use Rattle.exact.specs.declared.Scan.{Scan}
 use Rattle.exact.specs.declared.Scan.the-variants.{Accepted, More, Refused}
+use Rattle.exact.specs.Claim.{Claim}
+use Rattle.exact.specs.Ended.{Ended}
 use Rattle.exact.specs.Pick.{pick}
 use Rattle.exact.specs.Parser.{tail-all}
+use Rattle.exact.specs.Theorem.{leaf-claims}
 use Rattle.text.specs.declared.Octets.{Octets}
 use Rattle.exact.specs.Told.{told, heard}
 use Rattle.text.specs.Told.{toldOctets, Unused}
+use Rattle.text.specs.Decimal.{Digit}
+use Rattle.text.specs.Ip4.{Address}
 use Rattle.text.specs.Verdicts.{Within}
 use Rattle.text.specs.DecimalLeaf.{decimalVerdict, decimal-within}
-use Rattle.text.specs.Ip4Leaf.{endOf, ip4Verdict, octetsFrom, octets-start, octets-end, octet-more, octet-refused, octet-accepted}
+use Rattle.text.specs.Ip4Leaf.{endOf, ip4, ip4Verdict, octetsFrom, octets-start, octets-end, octet-more, octet-refused, octet-accepted}
 use Rattle.text.proofs.ip4.Statement.{statement}
 use Rattle.text.proofs.ip4.Tie as tie
 
@@ -29,13 +34,34 @@ abbrev μ-loop : tie.MeasureT-loop
 μ-loop s end octets₀ at₀ i₀ octets at i = 4 - i
 
 abbrev Answered : List ℕ → ℕ → Octets → Type 0
-Answered s end r = ((k : ℕ) → toldOctets k r ≡ ip4Verdict k end s) × Unused (r .scan) (r .octets)
+Answered s end r =
+    ((k : ℕ) → toldOctets k r ≡ ip4Verdict k end s)
+    × (Unused (r .scan) (r .octets) × ((k : ℕ) → (Digit end → ⊥) → Claim (Ended Address end) (λ u. k) (toldOctets k r) s))
 
--- an answer without octets
-answered : (s : List ℕ) (end : ℕ) (r : Octets) (scan : Scan) → (r .scan ≡ scan) × (r .octets ≡ replicate 4 0)
-    → ((k : ℕ) → heard k scan (replicate 4 0) ≡ ip4Verdict k end s) → Unused scan (replicate 4 0) → Answered s end r
-answered s end r scan e verdict unused =
-    (λ k. ap₂ (heard k) (e .0) (e .1) ∙ verdict k, subst₂ Unused (sym (e .0)) (sym (e .1)) unused)
+-- a verdict, with its claim
+module _ (c : tie.Start Inv-loop μ-loop) where
+  abbrev whole : List ℕ
+  whole = c .args .s .now
+
+  abbrev last : ℕ
+  last = c .args .end
+
+  answered : (r : Octets) → ((k : ℕ) → toldOctets k r ≡ ip4Verdict k last whole) → Unused (r .scan) (r .octets) → Answered whole last r
+  answered r verdict unused = (
+    verdict,
+    (
+      unused,
+      λ k apart.
+          let p = ip4 k last apart (c .fits .end .fits) in
+          leaf-claims k (Ended Address last) (p .bytes) whole (verdict k) (p .exact whole),
+    ),
+  )
+
+  -- an answer without octets
+  bare : (r : Octets) (scan : Scan) → (r .scan ≡ scan) × (r .octets ≡ replicate 4 0)
+      → ((k : ℕ) → heard k scan (replicate 4 0) ≡ ip4Verdict k last whole) → Unused scan (replicate 4 0) → Answered whole last r
+  bare r scan e verdict unused =
+      answered r (λ k. ap₂ (heard k) (e .0) (e .1) ∙ verdict k) (subst₂ Unused (sym (e .0)) (sym (e .1)) unused)
 
 -- a turn of the loop, behind its call
 abbrev Turn : Type 0
@@ -45,11 +71,14 @@ module _ (l : Turn) where
   abbrev so-far : tie.At-loop Inv-loop μ-loop
   so-far = l .before .before .before .before
 
+  abbrev entry : tie.Start Inv-loop μ-loop
+  entry = so-far .before .before
+
   abbrev text : List ℕ
-  text = so-far .before .before .args .s .now
+  text = whole entry
 
   abbrev end : ℕ
-  end = so-far .before .before .args .end
+  end = last entry
 
   abbrev octets : List ℕ
   octets = so-far .loop .octets
@@ -71,7 +100,7 @@ module _ (l : Turn) where
 
   said : (k : ℕ) (r : Scan) → l .decimal .result ≡ r → told k r ≡ decimalVerdict k 255 (endOf end (3 - i)) (drop at text)
   said k r e =
-      ap (told k) (sym e) ∙ l .decimal .ensures k
+      ap (told k) (sym e) ∙ l .decimal .ensures .0 k
       ∙ ap (λ (s : List ℕ). decimalVerdict k 255 (l .before .before .if1 .stop) s) (tail-all at text)
       ∙ ap (λ (c : ℕ). decimalVerdict k 255 c (drop at text)) stop-is
 
@@ -83,18 +112,6 @@ loop-holds c = (omega arith, refl, omega arith, λ k. octets-start k _ _ (0 ∷ 
 
 sub-decimal : tie.Need-sub-decimal Inv-loop μ-loop
 sub-decimal c = omega arith
-
-part-decimal-start : tie.Need-part-decimal-start Inv-loop μ-loop
-part-decimal-start c = search needs
-
-part-decimal-end : tie.Need-part-decimal-end Inv-loop μ-loop
-part-decimal-end c = search needs
-
-decimal-requires : tie.Need-decimal-requires Inv-loop μ-loop
-decimal-requires c κs = search needs
-
-enum-known-n : tie.Need-enum-known-n Inv-loop μ-loop
-enum-known-n c = search needs
 
 -- what an accepted octet is
 module _ (c : tie.After-known-told Inv-loop μ-loop) where
@@ -122,23 +139,14 @@ array-write-octets c = omega arith
 add-at : tie.Need-add-at Inv-loop μ-loop
 add-at c = let h = fits c in omega arith
 
-enum-told : tie.Need-enum-told Inv-loop μ-loop
-enum-told c = search needs
-
-without-requires : tie.Need-without-requires Inv-loop μ-loop
-without-requires c κs = search needs
-
 returns : tie.Need-returns Inv-loop μ-loop
 returns c =
     let turn : Turn = c .before .before .before in
-    answered _ _ _ More (c .without .ensures)
+    bare (entry turn) _ More (c .without .ensures)
     (λ k.
     octet-more k (end turn) (text turn) (i turn) (octets turn) (at turn) (inside turn) (said turn k More (c .before .enum-told .given .1))
     ∙ sym (so-far turn .loop .inv .3 k))
     refl
-
-enum-known-place : tie.Need-enum-known-place Inv-loop μ-loop
-enum-known-place c = search needs
 
 add-t21 : tie.Need-add-t21 Inv-loop μ-loop
 add-t21 c =
@@ -146,14 +154,11 @@ add-t21 c =
     let h = within turn 0 (Refused (c .before .place .given .0 .0)) (c .before .place .given .1) in
     omega arith
 
-without-requires-2 : tie.Need-without-requires-2 Inv-loop μ-loop
-without-requires-2 c κs = search needs
-
 returns-2 : tie.Need-returns-2 Inv-loop μ-loop
 returns-2 c =
     let turn : Turn = c .before .before .before .before in
     let place : ℕ = c .before .before .place .given .0 .0 in
-    answered _ _ _ (Refused (at turn + place)) (c .without2 .ensures)
+    bare (entry turn) _ (Refused (at turn + place)) (c .without2 .ensures)
     (λ k.
     octet-refused k (end turn) (text turn) (i turn) (octets turn) (at turn) (inside turn) place
     (said turn k (Refused place) (c .before .before .place .given .1))
@@ -178,12 +183,12 @@ loop-again c = (
 )
 
 returns-3 : tie.Need-returns-3 Inv-loop μ-loop
-returns-3 c = (
-  λ k.
-      octets-end k _ _ (c .before .loop .i) (c .before .loop .octets) (c .before .loop .at) (omega arith) (c .before .loop .inv .1)
-      ∙ sym (c .before .loop .inv .3 k),
-  refl,
-)
+returns-3 c =
+    answered (c .before .before .before) (record { scan = Accepted 0 (c .before .loop .at); octets = c .before .loop .octets })
+    (λ k.
+    octets-end k _ _ (c .before .loop .i) (c .before .loop .octets) (c .before .loop .at) (omega arith) (c .before .loop .inv .1)
+    ∙ sym (c .before .loop .inv .3 k))
+    refl
 
 pub ip4-spec : {M : Type 1} → statement M
 ip4-spec =
@@ -193,19 +198,19 @@ ip4-spec =
     μ-loop
     loop-holds
     sub-decimal
-    part-decimal-start
-    part-decimal-end
-    decimal-requires
-    enum-known-n
+    (λ c. search needs)
+    (λ c. search needs)
+    (λ c κs. search needs)
+    (λ c. search needs)
     cast-octets
     array-write-octets
     add-at
-    enum-told
-    without-requires
+    (λ c. search needs)
+    (λ c κs. search needs)
     returns
-    enum-known-place
+    (λ c. search needs)
     add-t21
-    without-requires-2
+    (λ c κs. search needs)
     returns-2
     add-i
     loop-less

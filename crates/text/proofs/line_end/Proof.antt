@@ -8,9 +8,12 @@ use native.Mathlib.Omega.{arith}
 use lib.Dec.{eqb}
 use lib.ListN.{length, getD}
 use borrow.Author.Tests.{eq-eqb, ne-eqb}
-use Rattle.exact.specs.Claim.{refused}
+use Rattle.exact.specs.Claim.{Verdict, refused, Claim}
+use Rattle.exact.specs.Valueless.{Valueless}
+use Rattle.exact.specs.Theorem.{leaf-claims}
 use Rattle.exact.specs.Machine.{from, from-start, from-end, from-go, from-done, from-dead}
-use Rattle.text.specs.LineLeaf.{line, least, pass, stepLine, lineVerdict, lf-ends, passes-by, pass-go, pass-dead}
+use Rattle.text.specs.Line.{FirstEnd}
+use Rattle.text.specs.LineLeaf.{line, least, pass, stepLine, lineVerdict, lineEnd, lf-ends, passes-by, pass-go, pass-dead}
 use Rattle.text.proofs.line_end.Statement.{statement}
 use Rattle.text.proofs.line_end.Tie as tie
 
@@ -21,6 +24,18 @@ Inv-loop s limit i₀ cr₀ i cr =
 abbrev μ-loop : tie.MeasureT-loop
 μ-loop s limit i₀ cr₀ i cr = length s - i
 
+-- a verdict, with its claim
+module _ (c : tie.Start Inv-loop μ-loop) where
+  abbrev whole : List ℕ
+  whole = c .args .s .now
+
+  abbrev most : ℕ
+  most = c .args .limit
+
+  answered : {v : ℕ → Verdict ℕ} → ((k : ℕ) → v k ≡ lineVerdict k most whole)
+      → ((k : ℕ) → v k ≡ lineVerdict k most whole) × ((k : ℕ) → 2 ≤ most → Claim (Valueless (FirstEnd most)) (λ u. k) (v k) whole)
+  answered e = (e, λ k h. let p = lineEnd k most h in leaf-claims k (Valueless (FirstEnd most)) (p .bytes) whole (e k) (p .exact whole))
+
 -- a turn that does not end the line
 abbrev Turn : Type 0
 Turn = tie.Joined4 Inv-loop μ-loop
@@ -30,10 +45,10 @@ module _ (l : Turn) where
   so-far = l .before .before .before .before
 
   abbrev text : List ℕ
-  text = so-far .before .args .s .now
+  text = whole (so-far .before)
 
   abbrev limit : ℕ
-  limit = so-far .before .args .limit
+  limit = most (so-far .before)
 
   abbrev at : ℕ
   at = so-far .loop .i
@@ -82,7 +97,7 @@ loop-holds c = (
 )
 
 returns : tie.Need-returns Inv-loop μ-loop
-returns c = λ k. sym (c .before .loop .inv .2 k ∙ from-end k stepLine _ _ _ (c .if1 .taken))
+returns c = answered (c .before .before) (λ k. sym (c .before .loop .inv .2 k ∙ from-end k stepLine _ _ _ (c .if1 .taken)))
 
 shared-slice-read-c : tie.Need-shared-slice-read-c Inv-loop μ-loop
 shared-slice-read-c c = omega arith
@@ -91,7 +106,7 @@ sub-if5 : tie.Need-sub-if5 Inv-loop μ-loop
 sub-if5 c = omega arith
 
 returns-2 : tie.Need-returns-2 Inv-loop μ-loop
-returns-2 c = λ k. dies (c .before) k (c .if5 .taken)
+returns-2 c = answered (so-far (c .before) .before) (λ k. dies (c .before) k (c .if5 .taken))
 
 add-i : tie.Need-add-i Inv-loop μ-loop
 add-i c = omega arith
@@ -108,11 +123,12 @@ add-t15 c = omega arith
 returns-3 : tie.Need-returns-3 Inv-loop μ-loop
 returns-3 c =
     let so-far = c .before .before .before .before in
-    λ k.
+    answered (so-far .before)
+    (λ k.
     sym
     (so-far .loop .inv .2 k
-    ∙ from-done k stepLine (so-far .before .args .s .now) (so-far .loop .i) _ 0 (c .before .before .before .if1 .left)
-    (lf-ends _ _ _ (c .before .if2 .taken) (c .if3 .taken)))
+    ∙ from-done k stepLine (whole (so-far .before)) (so-far .loop .i) _ 0 (c .before .before .before .if1 .left)
+    (lf-ends _ _ _ (c .before .if2 .taken) (c .if3 .taken))))
 
 pub line-end-spec : {M : Type 1} → statement M
 line-end-spec =
