@@ -7,8 +7,10 @@ use exact::Scan;
 ghost use mathlib.Core.Path.{_≡_};
 ghost use Prim.Native.Nat.{ℕ, _+_, _^_, _<_};
 ghost use lib.ListN.{length};
+ghost use Rattle.exact.specs.Claim.{Claim};
+ghost use Rattle.exact.specs.Ended.{Ended};
 ghost use Rattle.exact.specs.Machine.{run};
-ghost use Rattle.ip6.specs.Address.{hexOf};
+ghost use Rattle.ip6.specs.Address.{hexOf, Address, Ending};
 ghost use Rattle.ip6.specs.Machine.{start, digits, behind, step};
 ghost use Rattle.ip6.specs.Told.{toldAddress, Unused};
 ghost use Rattle.ip6.specs.Partial.{Sized, sofar, seenOf, spread};
@@ -199,10 +201,12 @@ fn begun(s: &[u8], end: u8, groups: &mut [u16; 8], place: &mut usize) -> u8
     }
 }
 
-// An address that the byte end ends.
+// An address that the byte end ends. A hex digit or a colon is no such byte: as end it ends an address right behind "::" only, and is part
+// of the address elsewhere.
 pub fn address(s: &[u8], end: u8) -> Scanned
     ensures verdict { λ r. ⌜ ((k : ℕ) → toldAddress k r ≡ run k (step end) (now (s .entry)) start) ⌝ }
     ensures unused { λ r. ⌜ Unused (r .scan) (r .groups) ⌝ }
+    ensures claim { λ r. ⌜ ((k : ℕ) → Ending end → Claim (Ended Address end) (λ u. k) (toldAddress k r) (now (s .entry))) ⌝ }
 {
     let mut groups = [0u16; 8];
     let mut place: usize = 0;
