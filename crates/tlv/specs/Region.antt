@@ -13,6 +13,7 @@ use Rattle.exact.specs.Field.{Opens, Exact}
 use Rattle.exact.specs.Machine.{leaf, Move, go, done, dead, Sound, run, machine-exact}
 use Rattle.exact.specs.Parser.{Parser}
 use Rattle.exact.specs.Pick.{pick, pick-by}
+use Rattle.exact.specs.Valueless.{Valueless}
 use Rattle.tlv.specs.Tlv.{Filled}
 use Rattle.tlv.specs.Laws.{area-bytes}
 use Rattle.tlv.specs.Room.{Fillable, Good, Behind, head-open, head-shut, retype, high-byte, good-leaves, behind-fill}
@@ -146,9 +147,8 @@ step-sound q c ok =
     pick-by (Sound Lang Ok q c) (ltb c 256) (λ t. byte-sound q c (ltb-true c 256 t) ok) (λ t. no-byte q c (ltb-false c 256 t))
 
 -- ── the parser ──
--- TLVs fill n bytes; the value says nothing
 abbrev pub Region : ℕ → List ℕ → ℕ → Type 0
-Region n f a = Filled n f × (a ≡ 0)
+Region n = Valueless (Filled n)
 
 pub region-opens : (k n : ℕ) → Fillable n → Opens (leaf k (Region n)) []
 region-opens k n ok = let c = fill-rule n .1 ok in record { tail = c .0; value = 0; whole = (c .1, refl) }

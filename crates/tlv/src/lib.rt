@@ -2,9 +2,12 @@
 // No public function has a `requires`.
 ghost use mathlib.Core.Path.{_≡_};
 ghost use mathlib.Core.Bool.{true};
-ghost use Prim.Native.Nat.{ℕ};
+ghost use mathlib.Core.Logic.{_⊎_};
+ghost use Prim.Native.Nat.{ℕ, _≤_};
+ghost use Rattle.exact.specs.Claim.{Claim};
+ghost use Rattle.exact.specs.Valueless.{Valueless};
 ghost use Rattle.exact.specs.Told.{told};
-ghost use Rattle.tlv.specs.Tlv.{WellFormed};
+ghost use Rattle.tlv.specs.Tlv.{WellFormed, Filled};
 ghost use Rattle.tlv.specs.Region.{good, judge};
 use exact::Scan;
 
@@ -21,10 +24,11 @@ fn is_good(size: usize, room: usize) -> bool
     size <= room - 3
 }
 
-// Judges the area of n bytes that s begins with; bytes behind it are not looked at. More, if s is shorter and can still be
-// completed. TLVs fill no area of 1 or 2 bytes: it is refused at its first byte.
+// Judges the area of n bytes that s begins with; bytes behind it are not looked at. More, if s is shorter and can still be completed. TLVs
+// fill no area of 1 or 2 bytes: its first byte is refused, and before it the answer is More.
 pub fn region(s: &[u8], n: usize) -> Scan
-    ensures { λ r. ⌜ ((k : ℕ) → told k r ≡ judge k n (now (s .entry))) ⌝ }
+    ensures verdict { λ r. ⌜ ((k : ℕ) → told k r ≡ judge k n (now (s .entry))) ⌝ }
+    ensures claim { λ r. ⌜ ((k : ℕ) → (n ≡ 0) ⊎ (3 ≤ n) → Claim (Valueless (Filled n)) (λ u. k) (told k r) (now (s .entry))) ⌝ }
 {
     let mut i: usize = 0;
     while i < n {

@@ -54,7 +54,7 @@ module _ (c : tie.After-region) where
       }
 
   found : (x : Scan) → c .region .result ≡ x → told 9 x ≡ judge 9 (size start - block) (drop (16 + block) (text start))
-  found x e = said 9 (judge 9 (size start - block)) (text start) (16 + block) e (c .region .ensures 9)
+  found x e = said 9 (judge 9 (size start - block)) (text start) (16 + block) e (c .region .ensures .0 9)
 
   inside : (x : Scan) → c .region .result ≡ x → 16 + block + reach (told 9 x) ≤ length (text start)
   inside x e = tlvs-inside here (told 9 x) (found x e)

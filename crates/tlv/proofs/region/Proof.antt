@@ -3,11 +3,16 @@ use Prim.Native.Nat.{ℕ, _+_, _*_, _-_, _≤_, _<_}
 use mathlib.Core.Path.{_≡_, sym, ap, _∙_}
 use mathlib.Core.Bool.{Bool, true, false}
 use mathlib.Core.List.{List}
+use mathlib.Core.Logic.{_⊎_}
 use native.Mathlib.Omega.{arith}
 use lib.ListN.{getD}
-use Rattle.exact.specs.Claim.{Verdict, accepted, more, refused}
+use Rattle.exact.specs.Claim.{Verdict, accepted, Claim}
+use Rattle.exact.specs.Valueless.{Valueless}
+use Rattle.exact.specs.Theorem.{leaf-claims}
+use Rattle.tlv.specs.Tlv.{Filled}
+use Rattle.tlv.specs.Laws.{area-bytes}
 use Rattle.tlv.specs.Room.{good-leaves}
-use Rattle.tlv.specs.Region.{judge, good, good-true}
+use Rattle.tlv.specs.Region.{judge, judge-exact, good, good-true}
 use Rattle.tlv.specs.Turn.{left, left-start, left-done, left-more, left-short, type-dead, high-more, high-dead, low-more, low-dead, low-go}
 use Rattle.tlv.proofs.region.Statement.{statement}
 use Rattle.tlv.proofs.region.Tie as tie
@@ -22,18 +27,30 @@ module _ (c : tie.At-loop Inv-loop μ-loop) where
   abbrev area : List ℕ
   area = c .before .before .args .s .now
 
+  abbrev whole : ℕ
+  whole = c .before .before .args .n
+
   abbrev at : ℕ
   at = c .loop .i
 
   abbrev rest : ℕ
-  rest = c .before .before .args .n - c .loop .i
+  rest = whole - c .loop .i
 
   bytes : (j : ℕ) → getD area j 0 < 256
   bytes j = c .before .shared-slice-known .given j .fits
 
   -- a verdict from the place on is the verdict
-  is : (v : ℕ → Verdict ℕ) → ((k : ℕ) → left k area at rest ≡ v k) → (k : ℕ) → v k ≡ judge k (c .before .before .args .n) area
-  is v e k = sym (c .loop .inv .1 k ∙ e k)
+  is : {v : ℕ → Verdict ℕ} → ((k : ℕ) → left k area at rest ≡ v k) → (k : ℕ) → v k ≡ judge k whole area
+  is e k = sym (c .loop .inv .1 k ∙ e k)
+
+  -- and has its claim
+  answered : {v : ℕ → Verdict ℕ} → ((k : ℕ) → left k area at rest ≡ v k)
+      → ((k : ℕ) → v k ≡ judge k whole area)
+      × ((k : ℕ) → (whole ≡ 0) ⊎ (3 ≤ whole) → Claim (Valueless (Filled whole)) (λ u. k) (v k) area)
+  answered e = (
+    is e,
+    λ k ok. leaf-claims k (Valueless (Filled whole)) (λ f a l. area-bytes f (l .0 .1)) area (is e k) (judge-exact k whole ok area),
+  )
 
 -- behind the test of the length
 module _ (c : tie.After-is-good Inv-loop μ-loop) where
@@ -54,11 +71,11 @@ module _ (c : tie.After-is-good Inv-loop μ-loop) where
 
 loop-holds : tie.Need-loop-holds Inv-loop μ-loop
 loop-holds c =
-    let whole : c .before .args .n ≡ c .before .args .n - 0 = omega arith in
-    (omega arith, λ k. left-start k (c .before .args .s .now) (c .before .args .n) ∙ ap (left k (c .before .args .s .now) 0) whole)
+    let all : c .before .args .n ≡ c .before .args .n - 0 = omega arith in
+    (omega arith, λ k. left-start k (c .before .args .s .now) (c .before .args .n) ∙ ap (left k (c .before .args .s .now) 0) all)
 
 returns : tie.Need-returns Inv-loop μ-loop
-returns c = let l = c .before .before in is l (λ k. more) (λ k. left-more k (area l) (at l) (rest l) (omega arith) (omega arith))
+returns c = let l = c .before .before in answered l (λ k. left-more k (area l) (at l) (rest l) (omega arith) (omega arith))
 
 sub-if2 : tie.Need-sub-if2 Inv-loop μ-loop
 sub-if2 c = omega arith
@@ -66,7 +83,7 @@ sub-if2 c = omega arith
 returns-2 : tie.Need-returns-2 Inv-loop μ-loop
 returns-2 c =
     let l = c .before .before .before in
-    is l (λ k. refused k (at l)) (λ k. type-dead k (area l) (bytes l) (at l) (rest l) (omega arith) (omega arith) (omega arith))
+    answered l (λ k. type-dead k (area l) (bytes l) (at l) (rest l) (omega arith) (omega arith) (omega arith))
 
 add-if3 : tie.Need-add-if3 Inv-loop μ-loop
 add-if3 c = omega arith
@@ -74,7 +91,7 @@ add-if3 c = omega arith
 returns-3 : tie.Need-returns-3 Inv-loop μ-loop
 returns-3 c =
     let l = c .before .before .before .before in
-    is l (λ k. more) (λ k. high-more k (area l) (bytes l) (at l) (rest l) (omega arith) (omega arith) (omega arith))
+    answered l (λ k. high-more k (area l) (bytes l) (at l) (rest l) (omega arith) (omega arith) (omega arith))
 
 sub-room : tie.Need-sub-room Inv-loop μ-loop
 sub-room c = omega arith
@@ -100,7 +117,7 @@ add-t12 c = omega arith
 returns-4 : tie.Need-returns-4 Inv-loop μ-loop
 returns-4 c =
     let l = c .before .before .before .before .before .before in
-    is l (λ k. refused k (at l + 1)) (λ k. high-dead k (area l) (bytes l) (at l) (rest l) (omega arith) (omega arith) (omega arith))
+    answered l (λ k. high-dead k (area l) (bytes l) (at l) (rest l) (omega arith) (omega arith) (omega arith))
 
 add-if5 : tie.Need-add-if5 Inv-loop μ-loop
 add-if5 c = omega arith
@@ -108,7 +125,7 @@ add-if5 c = omega arith
 returns-5 : tie.Need-returns-5 Inv-loop μ-loop
 returns-5 c =
     let l = c .before .before .before .before .before .before .before in
-    is l (λ k. more) (λ k. low-more k (area l) (bytes l) (at l) (rest l) (omega arith) (omega arith) (omega arith) (omega arith))
+    answered l (λ k. low-more k (area l) (bytes l) (at l) (rest l) (omega arith) (omega arith) (omega arith) (omega arith))
 
 add-size : tie.Need-add-size Inv-loop μ-loop
 add-size c = omega arith
@@ -142,7 +159,7 @@ loop-again : tie.Need-loop-again Inv-loop μ-loop
 loop-again c =
     let l = head (c .before) in
     let h = within (c .before) (c .if6 .taken) in
-    let next : room (c .before) - size (c .before) ≡ l .before .before .args .n - (at l + 3 + size (c .before)) = omega arith in (
+    let next : room (c .before) - size (c .before) ≡ whole l - (at l + 3 + size (c .before)) = omega arith in (
       omega arith,
       λ k.
           l .loop .inv .1 k
@@ -156,19 +173,17 @@ add-t16 c = omega arith
 returns-6 : tie.Need-returns-6 Inv-loop μ-loop
 returns-6 c =
     let l = head (c .before) in
-    is l (λ k. refused k (at l + 2))
-    (λ k. low-dead k (area l) (bytes l) (at l) (rest l) (omega arith) (omega arith) (omega arith) (tested (c .before) false (c .if6 .left)))
+    answered l (λ k. low-dead k (area l) (bytes l) (at l) (rest l) (omega arith) (omega arith) (omega arith) (tested (c .before) false (c .if6 .left)))
 
 returns-7 : tie.Need-returns-7 Inv-loop μ-loop
-returns-7 c = let l = c .before .before in is l (λ k. more) (λ k. left-short k (area l) (at l) (rest l) (omega arith))
+returns-7 c = let l = c .before .before in answered l (λ k. left-short k (area l) (at l) (rest l) (omega arith))
 
 returns-8 : tie.Need-returns-8 Inv-loop μ-loop
 returns-8 c =
     let l = c .before .before in
     let none : rest l ≡ 0 = omega arith in
-    let end : at l ≡ l .before .before .args .n = omega arith in
-    is l (λ k. accepted 0 (l .before .before .args .n))
-    (λ k. ap (left k (area l) (at l)) none ∙ left-done k (area l) (at l) (omega arith) ∙ ap (accepted 0) end)
+    let end : at l ≡ whole l = omega arith in
+    answered l (λ k. ap (left k (area l) (at l)) none ∙ left-done k (area l) (at l) (omega arith) ∙ ap (accepted 0) end)
 
 pub region-spec : {M : Type 1} → statement M
 region-spec =

@@ -14,24 +14,12 @@ use Rattle.tlv.specs.Whole.{Accepted, judged}
 use Rattle.tlv.proofs.well_formed.Statement.{statement}
 use Rattle.tlv.proofs.well_formed.Tie as tie
 
-region-requires : tie.Need-region-requires
-region-requires c κs = search needs
-
-enum-told : tie.Need-enum-told
-enum-told c = search needs
-
-enum-told-2 : tie.Need-enum-told-2
-enum-told-2 c = search needs
-
-enum-told-3 : tie.Need-enum-told-3
-enum-told-3 c = search needs
-
 module _ (c : tie.After-region) where
   abbrev area : List ℕ
   area = now (c .before .before .args .s)
 
   says : Accepted (told 0 (c .region .result)) ↔ WellFormed area
-  says = rw (c .region .ensures 0) (judged 0 (length area) area refl)
+  says = rw (c .region .ensures .0 0) (judged 0 (length area) area refl)
 
   denies : (Accepted (told 0 (c .region .result)) → ⊥) → (false ≡ true → WellFormed area) × (WellFormed area → false ≡ true)
   denies not = (λ e. absurd (let z : _≡_ {A = ℕ} 0 1 = cc in omega arith), λ w. absurd (not (says .1 w)))
@@ -48,4 +36,4 @@ returns-3 c = denies (c .before .before) (rw (c .enum-told3 .given .1) (λ y. y)
 pub well-formed-spec : {M : Type 1} → statement M
 well-formed-spec =
     tie.close
-    (tie.spec region-requires enum-told enum-told-2 enum-told-3 returns returns-2 returns-3)
+    (tie.spec (λ c κs. search needs) (λ c. search needs) (λ c. search needs) (λ c. search needs) returns returns-2 returns-3)
