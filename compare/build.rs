@@ -1,7 +1,7 @@
-//! Links the proved library, which `rt staticlib capi` writes.
+//! Links the proved library, which `rt staticlib dawnhawse` writes.
 fn main() {
     let folder = concat!(env!("CARGO_MANIFEST_DIR"), "/../target/staticlib");
     println!("cargo:rustc-link-search=native={folder}");
-    println!("cargo:rustc-link-lib=static=capi");
-    println!("cargo:rerun-if-changed={folder}/libcapi.a");
+    println!("cargo:rustc-link-lib=static=dawnhawse");
+    println!("cargo:rerun-if-changed={folder}/libdawnhawse.a");
 }

@@ -1,8 +1,8 @@
 /*
  * Takes a PROXY protocol header from a socket, a byte at a time, and prints who called.
  *
- *     rt staticlib capi
- *     gcc -Iinclude examples/who_called.c target/staticlib/libcapi.a -o who_called
+ *     rt staticlib dawnhawse
+ *     gcc -Iinclude examples/who_called.c target/staticlib/libdawnhawse.a -o who_called
  *     ./who_called
  */
 #include <arpa/inet.h>

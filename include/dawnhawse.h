@@ -1,7 +1,7 @@
 /*
  * dawnhawse.h: PROXY protocol headers, versions 1 and 2, for C and C++.
  *
- * Link with target/staticlib/libcapi.a (`rt staticlib capi` makes it, for x86-64 Linux).
+ * Link with target/staticlib/libdawnhawse.a (`rt staticlib dawnhawse` makes it, for x86-64 Linux).
  *
  * The library allocates nothing, keeps nothing between calls, and calls nothing but memcpy and its like. It reads only the
  * bytes lent to it and writes only into the buffers lent to it. What each function answers, and what each buffer then holds,
