@@ -60,7 +60,7 @@ int main(void)
     }
 
     if (answer == DAWNHAWSE_ACCEPTED) {
-        printf("version %d, %d bytes: ", (int)numbers[DAWNHAWSE_VERSION], (int)numbers[DAWNHAWSE_LENGTH]);
+        printf("version %d, %d bytes: ", (int)numbers[DAWNHAWSE_HEADER_VERSION], (int)numbers[DAWNHAWSE_LENGTH]);
         print_caller(connection);
     } else if (answer == DAWNHAWSE_MORE) {
         printf("the connection ended inside the header, after %d bytes\n", (int)received);

@@ -18,6 +18,12 @@
 #include <stddef.h>
 #include <stdint.h>
 
+/* The release of the library; README says what each of its numbers counts. */
+#define DAWNHAWSE_RELEASE "0.1.0"
+#define DAWNHAWSE_RELEASE_MAJOR 0
+#define DAWNHAWSE_RELEASE_MINOR 1
+#define DAWNHAWSE_RELEASE_PATCH 0
+
 #ifdef __cplusplus
 extern "C" {
 #endif
@@ -83,11 +89,11 @@ extern "C" {
 #define DAWNHAWSE_NUMBERS 4
 
 /* dawnhawse_read */
-#define DAWNHAWSE_LENGTH 0      /* accepted: the header's length, 15 to 65551; the payload starts there */
-#define DAWNHAWSE_PLACE 0       /* refused: the place of the first byte that rules a header out, counted from 0 */
-#define DAWNHAWSE_VERSION 1     /* accepted: 1 or 2 */
-#define DAWNHAWSE_AREA_START 2  /* accepted: where the TLV area starts in the bytes read */
-#define DAWNHAWSE_AREA_LENGTH 3 /* accepted: the area's length; 0 for version 1, local and unspecified */
+#define DAWNHAWSE_LENGTH 0         /* accepted: the header's length, 15 to 65551; the payload starts there */
+#define DAWNHAWSE_PLACE 0          /* refused: the place of the first byte that rules a header out, counted from 0 */
+#define DAWNHAWSE_HEADER_VERSION 1 /* accepted: 1 or 2 */
+#define DAWNHAWSE_AREA_START 2     /* accepted: where the TLV area starts in the bytes read */
+#define DAWNHAWSE_AREA_LENGTH 3    /* accepted: the area's length; 0 for version 1, local and unspecified */
 
 /* dawnhawse_step and dawnhawse_lookup */
 #define DAWNHAWSE_NEXT 0         /* step: the place for the next step */
@@ -253,6 +259,37 @@ uint32_t dawnhawse_store(const uint8_t *connection, size_t connection_len, uint8
  *   DAWNHAWSE_LOADED          connection: what was stored
  */
 uint32_t dawnhawse_load(const uint8_t *stored, size_t stored_len, uint8_t *connection, size_t connection_len);
+
+/* A short name of an answer, for logs; it is never NULL. */
+static inline const char *dawnhawse_answer_name(uint32_t answer)
+{
+    switch (answer) {
+    case DAWNHAWSE_ACCEPTED: return "ok"; /* also found, written and loaded */
+    case DAWNHAWSE_REFUSED_START: return "refused-start";
+    case DAWNHAWSE_REFUSED_WORD: return "refused-word";
+    case DAWNHAWSE_REFUSED_ADDRESS: return "refused-address";
+    case DAWNHAWSE_REFUSED_PORT: return "refused-port";
+    case DAWNHAWSE_REFUSED_END: return "refused-end";
+    case DAWNHAWSE_REFUSED_COMMAND: return "refused-command";
+    case DAWNHAWSE_REFUSED_FAMILY: return "refused-family";
+    case DAWNHAWSE_REFUSED_LENGTH: return "refused-length";
+    case DAWNHAWSE_REFUSED_TLV: return "refused-tlv";
+    case DAWNHAWSE_NO_FORM: return "no-form";
+    case DAWNHAWSE_UNUSED_NOT_ZERO: return "unused-not-zero";
+    case DAWNHAWSE_ILL_FORMED: return "ill-formed";
+    case DAWNHAWSE_TOO_LARGE: return "too-large";
+    case DAWNHAWSE_NO_ROOM: return "no-room";
+    case DAWNHAWSE_WRONG_MARK: return "wrong-mark";
+    case DAWNHAWSE_WRONG_VERSION: return "wrong-version";
+    case DAWNHAWSE_UNKNOWN_KIND: return "unknown-kind";
+    case DAWNHAWSE_WRONG_SIZE: return "wrong-size";
+    case DAWNHAWSE_END: return "end";
+    case DAWNHAWSE_ABSENT: return "absent";
+    case DAWNHAWSE_GAVE_UP: return "gave-up";
+    case DAWNHAWSE_MORE: return "more";
+    default: return "not-an-answer";
+    }
+}
 
 #ifdef __cplusplus
 }

@@ -1,0 +1,45 @@
+/* What the C header itself says, as C99 and as C++: each answer has a name of its own, and the release is its three numbers. */
+#include <dawnhawse.h>
+#include <stdio.h>
+#include <string.h>
+
+static int passed, failed;
+
+static void check(int holds, const char *what)
+{
+    if (holds) {
+        passed++;
+    } else {
+        failed++;
+        printf("not so: %s\n", what);
+    }
+}
+
+static int is_answer(uint32_t number)
+{
+    return number <= DAWNHAWSE_WRONG_SIZE || (number >= DAWNHAWSE_END && number <= DAWNHAWSE_MORE);
+}
+
+int main(void)
+{
+    const char *other = dawnhawse_answer_name(UINT32_MAX);
+    char text[64];
+    uint32_t number, another;
+
+    for (number = 0; number < 300; number++) {
+        const char *name = dawnhawse_answer_name(number);
+        int taken = 0;
+
+        for (another = 0; another < 300; another++)
+            taken += strcmp(dawnhawse_answer_name(another), name) == 0;
+        snprintf(text, sizeof text, "answer %u has a name of its own", (unsigned)number);
+        if (is_answer(number))
+            check(taken == 1, text);
+        else if (strcmp(name, other) != 0)
+            check(0, "every number that is no answer has one name");
+    }
+    snprintf(text, sizeof text, "%d.%d.%d", DAWNHAWSE_RELEASE_MAJOR, DAWNHAWSE_RELEASE_MINOR, DAWNHAWSE_RELEASE_PATCH);
+    check(strcmp(text, DAWNHAWSE_RELEASE) == 0, "the release is its three numbers");
+    printf("%d passed, %d failed\n", passed, failed);
+    return failed != 0;
+}
