@@ -57,7 +57,8 @@ extern "C" {
 #define DAWNHAWSE_NO_FORM 10
 #define DAWNHAWSE_UNUSED_NOT_ZERO 11
 
-/* TLVs do not fill the area, or what remains of it; version 2 writer: or an area that is not empty beside local or unspecified. */
+/* TLVs do not fill the area or what remains of it, or the one TLV looked at does not end in it; version 2 writer: or an area
+   that is not empty beside local or unspecified. */
 #define DAWNHAWSE_ILL_FORMED 12
 
 /* Version 2 writer: address block and TLVs exceed 65535 bytes. */
@@ -74,7 +75,7 @@ extern "C" {
 #define DAWNHAWSE_UNKNOWN_KIND 17
 #define DAWNHAWSE_WRONG_SIZE 18
 
-/* dawnhawse_step: the walk is at the end of the area. */
+/* dawnhawse_next, dawnhawse_step: the walk is at the end of the area. */
 #define DAWNHAWSE_END 252
 
 /* dawnhawse_lookup: the area has no TLV of the type; or none is among those examined, and the area has more TLVs than the limit. */
@@ -95,10 +96,10 @@ extern "C" {
 #define DAWNHAWSE_AREA_START 2     /* accepted: where the TLV area starts in the bytes read */
 #define DAWNHAWSE_AREA_LENGTH 3    /* accepted: the area's length; 0 for version 1, local and unspecified */
 
-/* dawnhawse_step and dawnhawse_lookup */
-#define DAWNHAWSE_NEXT 0         /* step: the place for the next step */
+/* dawnhawse_next, dawnhawse_step and dawnhawse_lookup */
+#define DAWNHAWSE_NEXT 0         /* next, step: the place for the next step */
 #define DAWNHAWSE_COUNT 0        /* lookup: how many TLVs were examined, never more than the limit */
-#define DAWNHAWSE_TYPE 1         /* step: the type shown; lookup: the type asked for */
+#define DAWNHAWSE_TYPE 1         /* next, step: the type shown; lookup: the type asked for */
 #define DAWNHAWSE_VALUE_START 2  /* where the value starts in the area */
 #define DAWNHAWSE_VALUE_LENGTH 3 /* the value's length */
 
@@ -136,7 +137,8 @@ extern "C" {
 
 /*
  * What the bytes received so far are. Call it again with all bytes from the first on when more have come: no answer but
- * DAWNHAWSE_MORE changes when further bytes follow.
+ * DAWNHAWSE_MORE changes when further bytes follow. Each call begins at the first byte, so who gets a long version 2 header in
+ * many scraps may let them gather: once 16 bytes have come, its length is known to be 16 + 256 * bytes[14] + bytes[15].
  *
  *   bytes, bytes_len             the bytes received so far; not altered
  *   numbers, numbers_len         at least DAWNHAWSE_NUMBERS elements
@@ -155,16 +157,31 @@ uint32_t dawnhawse_read(const uint8_t *bytes, size_t bytes_len, uint64_t *number
                         uint8_t *connection, size_t connection_len);
 
 /*
- * One step of a walk over a TLV area. Start at place 0, and go on at numbers[DAWNHAWSE_NEXT].
+ * One step of a walk over the TLV area of an accepted header. Start at place 0, and go on at numbers[DAWNHAWSE_NEXT]. It looks at
+ * one TLV, so a walk over N TLVs looks at N. Wherever TLVs fill the area, as they do in an accepted header, it answers as
+ * dawnhawse_step does.
  *
- *   area, area_len         the TLV area of a header, bytes + numbers[DAWNHAWSE_AREA_START]; not altered
+ *   area, area_len         the TLV area, bytes + numbers[DAWNHAWSE_AREA_START]; not altered
  *   at                     the place of the step, counted from 0
  *   numbers, numbers_len   at least DAWNHAWSE_NUMBERS elements
  *
  * Answers
  *   DAWNHAWSE_FOUND        a TLV stands there; numbers: the place behind it, its type, its value's start and length in the area
  *   DAWNHAWSE_END          the area ends there; numbers: at, 0, 0, 0
- *   DAWNHAWSE_ILL_FORMED   TLVs do not fill what remains, or the place lies beyond the area; numbers: at, 0, 0, 0
+ *   DAWNHAWSE_ILL_FORMED   the TLV there does not end in the area, or the place lies beyond it; numbers: at, 0, 0, 0
+ *   DAWNHAWSE_NO_ROOM      numbers has fewer than 4 elements; it is as it was
+ */
+uint32_t dawnhawse_next(const uint8_t *area, size_t area_len, size_t at, uint64_t *numbers, size_t numbers_len);
+
+/*
+ * The same for a TLV area that no reader has accepted: a TLV is shown only where TLVs fill all that remains. So each step looks at
+ * all TLVs from its place on, and a walk over N TLVs looks at about N * N / 2. A header can hold 21841: a walk over those takes
+ * most of a second, and a tenth of a millisecond by dawnhawse_next.
+ *
+ * Parameters and numbers are those of dawnhawse_next. Answers
+ *   DAWNHAWSE_FOUND        a TLV stands there
+ *   DAWNHAWSE_END          the area ends there
+ *   DAWNHAWSE_ILL_FORMED   TLVs do not fill what remains, or the place lies beyond the area
  *   DAWNHAWSE_NO_ROOM      numbers has fewer than 4 elements; it is as it was
  */
 uint32_t dawnhawse_step(const uint8_t *area, size_t area_len, size_t at, uint64_t *numbers, size_t numbers_len);
