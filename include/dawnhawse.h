@@ -7,8 +7,8 @@
  * bytes lent to it and writes only into the buffers lent to it. What each function answers, and what each buffer then holds,
  * is proved for every input. A caller owes this:
  *
- *   - a pointer is not NULL, even where its length is 0;
- *   - a pointer is aligned for its type, and its length is the number of elements that may be used behind it;
+ *   - a pointer is aligned for its type, and its length is the number of elements that may be used behind it; where the length
+ *     is 0 the pointer may be NULL;
  *   - a buffer that is written overlaps no other buffer of the same call;
  *   - nobody else writes to the buffers during the call.
  */

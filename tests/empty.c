@@ -1,0 +1,98 @@
+/*
+ * NULL with length 0, in every place of every function where a pointer is lent: it is answered as any other empty buffer is, and
+ * what the other buffers then hold is the same too. The gate also runs this under valgrind.
+ */
+#include <dawnhawse.h>
+#include <stdio.h>
+#include <string.h>
+
+static const char line[] = "PROXY TCP4 192.168.0.1 192.168.0.11 56324 443\r\n";
+static const uint8_t area[] = {0x04, 0, 0};
+static const uint8_t stored[] = {'C', 'S', 'R', 0, 1, DAWNHAWSE_LOCAL};
+static const uint8_t caller[DAWNHAWSE_CONNECTION] = {DAWNHAWSE_IP4_STREAM};
+
+/* What may be written, and one place more that never is. */
+static struct lent {
+    uint64_t numbers[DAWNHAWSE_NUMBERS + 1];
+    uint8_t bytes[DAWNHAWSE_LONGEST_STORED + 1];
+} lent, kept;
+
+static int passed, failed;
+
+static void fill(void) { memset(&lent, 0xee, sizeof lent); }
+
+/* Holds a call with NULL to its answer, and to a call with a pointer to something. */
+static void hold(const char *call, uint32_t with_null, uint32_t with_pointer, uint32_t answer)
+{
+    if (with_null == answer && with_pointer == answer && memcmp(&lent, &kept, sizeof lent) == 0) {
+        passed++;
+    } else {
+        failed++;
+        printf("%s answers %s, with a pointer %s; expected %s and the same buffers\n", call, dawnhawse_answer_name(with_null),
+               dawnhawse_answer_name(with_pointer), dawnhawse_answer_name(answer));
+    }
+}
+
+/* The call first with each NOTHING as a pointer to a place that must not be touched, then as NULL. */
+#define HOLD(CALL, ANSWER)                            \
+    do {                                              \
+        uint32_t with_pointer, with_null;             \
+        fill();                                       \
+        nothing = (void *)&untouched;                 \
+        with_pointer = (CALL);                        \
+        memcpy(&kept, &lent, sizeof kept);            \
+        fill();                                       \
+        nothing = NULL;                               \
+        with_null = (CALL);                           \
+        hold(#CALL, with_null, with_pointer, ANSWER); \
+    } while (0)
+#define NOTHING nothing, 0
+#define NUMBERS lent.numbers, DAWNHAWSE_NUMBERS
+#define BYTES lent.bytes, DAWNHAWSE_LONGEST_STORED
+#define CALLER caller, sizeof caller
+
+int main(void)
+{
+    static uint64_t untouched = 7;
+    const uint8_t *bytes = (const uint8_t *)line;
+    size_t length = strlen(line);
+    void *nothing;
+
+    HOLD(dawnhawse_read(NOTHING, NUMBERS, BYTES), DAWNHAWSE_MORE);
+    HOLD(dawnhawse_read(bytes, length, NOTHING, BYTES), DAWNHAWSE_NO_ROOM);
+    HOLD(dawnhawse_read(bytes, length, NUMBERS, NOTHING), DAWNHAWSE_NO_ROOM);
+    HOLD(dawnhawse_read(NOTHING, NOTHING, NOTHING), DAWNHAWSE_NO_ROOM);
+    HOLD(dawnhawse_next(NOTHING, 0, NUMBERS), DAWNHAWSE_END);
+    HOLD(dawnhawse_next(NOTHING, 1, NUMBERS), DAWNHAWSE_ILL_FORMED);
+    HOLD(dawnhawse_next(area, sizeof area, 0, NOTHING), DAWNHAWSE_NO_ROOM);
+    HOLD(dawnhawse_next(NOTHING, 0, NOTHING), DAWNHAWSE_NO_ROOM);
+    HOLD(dawnhawse_step(NOTHING, 0, NUMBERS), DAWNHAWSE_END);
+    HOLD(dawnhawse_step(NOTHING, 1, NUMBERS), DAWNHAWSE_ILL_FORMED);
+    HOLD(dawnhawse_step(area, sizeof area, 0, NOTHING), DAWNHAWSE_NO_ROOM);
+    HOLD(dawnhawse_step(NOTHING, 0, NOTHING), DAWNHAWSE_NO_ROOM);
+    HOLD(dawnhawse_lookup(NOTHING, 4, 9, NUMBERS), DAWNHAWSE_ABSENT);
+    HOLD(dawnhawse_lookup(NOTHING, 4, 0, NUMBERS), DAWNHAWSE_ABSENT);
+    HOLD(dawnhawse_lookup(area, sizeof area, 4, 9, NOTHING), DAWNHAWSE_NO_ROOM);
+    HOLD(dawnhawse_lookup(NOTHING, 4, 9, NOTHING), DAWNHAWSE_NO_ROOM);
+    HOLD(dawnhawse_write_v1(NOTHING, BYTES, NUMBERS), DAWNHAWSE_WRONG_SIZE);
+    HOLD(dawnhawse_write_v1(CALLER, NOTHING, NUMBERS), DAWNHAWSE_NO_ROOM);
+    HOLD(dawnhawse_write_v1(CALLER, BYTES, NOTHING), DAWNHAWSE_NO_ROOM);
+    HOLD(dawnhawse_write_v1(NOTHING, NOTHING, NOTHING), DAWNHAWSE_WRONG_SIZE);
+    HOLD(dawnhawse_write_v2(NOTHING, area, sizeof area, BYTES, NUMBERS), DAWNHAWSE_WRONG_SIZE);
+    HOLD(dawnhawse_write_v2(CALLER, NOTHING, BYTES, NUMBERS), DAWNHAWSE_WRITTEN);
+    HOLD(dawnhawse_write_v2(CALLER, area, sizeof area, NOTHING, NUMBERS), DAWNHAWSE_NO_ROOM);
+    HOLD(dawnhawse_write_v2(CALLER, area, sizeof area, BYTES, NOTHING), DAWNHAWSE_NO_ROOM);
+    HOLD(dawnhawse_write_v2(CALLER, NOTHING, NOTHING, NOTHING), DAWNHAWSE_NO_ROOM);
+    HOLD(dawnhawse_write_v2(NOTHING, NOTHING, NOTHING, NOTHING), DAWNHAWSE_WRONG_SIZE);
+    HOLD(dawnhawse_store(NOTHING, BYTES, NUMBERS), DAWNHAWSE_WRONG_SIZE);
+    HOLD(dawnhawse_store(CALLER, NOTHING, NUMBERS), DAWNHAWSE_NO_ROOM);
+    HOLD(dawnhawse_store(CALLER, BYTES, NOTHING), DAWNHAWSE_NO_ROOM);
+    HOLD(dawnhawse_store(NOTHING, NOTHING, NOTHING), DAWNHAWSE_WRONG_SIZE);
+    HOLD(dawnhawse_load(NOTHING, BYTES), DAWNHAWSE_WRONG_SIZE);
+    HOLD(dawnhawse_load(stored, sizeof stored, NOTHING), DAWNHAWSE_NO_ROOM);
+    HOLD(dawnhawse_load(NOTHING, NOTHING), DAWNHAWSE_NO_ROOM);
+    if (untouched != 7)
+        failed++;
+    printf("%d passed, %d failed\n", passed, failed);
+    return failed != 0;
+}
