@@ -1,16 +1,33 @@
 /*
  * dawnhawse.h: PROXY protocol headers, versions 1 and 2, for C and C++.
  *
- * Link with target/staticlib/libdawnhawse.a (`rt staticlib dawnhawse` makes it, for x86-64 Linux).
- *
- * The library allocates nothing, keeps nothing between calls, and calls nothing but memcpy and its like. It reads only the
- * bytes lent to it and writes only into the buffers lent to it. What each function answers, and what each buffer then holds,
- * is proved for every input. A caller owes this:
+ * Link with libdawnhawse.a; `./install DIR` puts it, this file and dawnhawse.pc below DIR. What each function answers, and what
+ * each buffer then holds, is proved for every input. A caller owes this:
  *
  *   - a pointer is aligned for its type, and its length is the number of elements that may be used behind it; where the length
  *     is 0 the pointer may be NULL;
  *   - a buffer that is written overlaps no other buffer of the same call;
  *   - nobody else writes to the buffers during the call.
+ *
+ * What the library asks of its surroundings:
+ *
+ *   memory    It allocates nothing, keeps nothing between calls, reads only the bytes lent to it and writes only into the
+ *             buffers lent to it.
+ *   threads   Any function may run in any thread, in several at once, and in a signal handler: they share nothing.
+ *   calls     Nothing but memcpy, memmove, memset and memcmp.
+ *   target    x86-64 Linux, the System V calling convention, position-independent code, no instruction beyond SSE2.
+ *
+ *   function             stack   time grows with
+ *   dawnhawse_read         512   version 1: at most 107 bytes; version 2: the TLVs among the bytes received, each looked at once
+ *   dawnhawse_next          64   nothing: one TLV is looked at
+ *   dawnhawse_step          64   the TLVs from the place to the end of the area, each looked at once
+ *   dawnhawse_lookup        64   the TLVs of the area, each looked at once, and those examined once more
+ *   dawnhawse_write_v1    3072   nothing: at most 104 bytes are written
+ *   dawnhawse_write_v2     800   the TLVs of the area, each looked at once, and the bytes written
+ *   dawnhawse_store        800   nothing: at most 222 bytes are written
+ *   dawnhawse_load         800   nothing: at most 222 bytes are read
+ *
+ * Stack is a bound in bytes, the return address among them; tests/stack.c measures each function on a painted stack.
  */
 #ifndef DAWNHAWSE_H
 #define DAWNHAWSE_H
