@@ -175,8 +175,8 @@ uint32_t dawnhawse_read(const uint8_t *bytes, size_t bytes_len, uint64_t *number
 
 /*
  * One step of a walk over the TLV area of an accepted header. Start at place 0, and go on at numbers[DAWNHAWSE_NEXT]. It looks at
- * one TLV, so a walk over N TLVs looks at N. Wherever TLVs fill the area, as they do in an accepted header, it answers as
- * dawnhawse_step does.
+ * one TLV, so a walk over N TLVs looks at N. Where TLVs fill all that remains, as they do at each place of such a walk, it answers
+ * as dawnhawse_step does.
  *
  *   area, area_len         the TLV area, bytes + numbers[DAWNHAWSE_AREA_START]; not altered
  *   at                     the place of the step, counted from 0
