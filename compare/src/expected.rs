@@ -46,10 +46,19 @@ pub fn read(bytes: &[u8], numbers_len: usize, connection_len: usize) -> Left {
 }
 
 pub fn step(area: &[u8], at: usize, numbers_len: usize) -> Left {
+    stepped(second::step(area, at), at, numbers_len)
+}
+
+pub fn next(area: &[u8], at: usize, numbers_len: usize) -> Left {
+    stepped(second::next(area, at), at, numbers_len)
+}
+
+/// What is told of a step from a place.
+fn stepped(step: Step, at: usize, numbers_len: usize) -> Left {
     if numbers_len < 4 {
         return untouched(NO_ROOM, numbers_len, 0);
     }
-    let (answer, four) = match second::step(area, at) {
+    let (answer, four) = match step {
         Step::Shown { kind, value, next } => (0, [next as u64, u64::from(kind), value.start as u64, value.len() as u64]),
         Step::End => (END, [at as u64, 0, 0, 0]),
         Step::Refused { number } => (u32::from(number), [at as u64, 0, 0, 0]),

@@ -58,7 +58,9 @@ pub fn steps(random: &mut Random, areas: usize) -> Outcome {
     for _ in 0..areas {
         let area = records::area(random);
         for at in (0..=area.len() + 2).chain([usize::MAX]) {
-            outcome.same(&library::step(&area, at, NUMBERS), &expected::step(&area, at, NUMBERS), || format!("{} at {at}", hex(&area)));
+            let input = || format!("{} at {at}", hex(&area));
+            outcome.same(&library::step(&area, at, NUMBERS), &expected::step(&area, at, NUMBERS), input);
+            outcome.same(&library::next(&area, at, NUMBERS), &expected::next(&area, at, NUMBERS), input);
         }
     }
     outcome
@@ -194,6 +196,7 @@ pub fn buffers() -> Outcome {
             outcome.same(&library::load(&form, length), &expected::load(&form, length), input);
         }
         outcome.same(&library::step(&area, 0, numbers), &expected::step(&area, 0, numbers), || format!("{numbers} numbers"));
+        outcome.same(&library::next(&area, 0, numbers), &expected::next(&area, 0, numbers), || format!("{numbers} numbers"));
         outcome.same(&library::lookup(&area, 4, 1, numbers), &expected::lookup(&area, 4, 1, numbers), || format!("{numbers} numbers"));
     }
     outcome

@@ -4,6 +4,7 @@ use crate::{Left, BYTE, NUMBER};
 extern "C" {
     fn dawnhawse_read(bytes: *const u8, bytes_len: usize, numbers: *mut u64, numbers_len: usize, connection: *mut u8, connection_len: usize) -> u32;
     fn dawnhawse_step(area: *const u8, area_len: usize, at: usize, numbers: *mut u64, numbers_len: usize) -> u32;
+    fn dawnhawse_next(area: *const u8, area_len: usize, at: usize, numbers: *mut u64, numbers_len: usize) -> u32;
     fn dawnhawse_lookup(area: *const u8, area_len: usize, wanted: u8, limit: usize, numbers: *mut u64, numbers_len: usize) -> u32;
     fn dawnhawse_write_v1(connection: *const u8, connection_len: usize, out: *mut u8, out_len: usize, numbers: *mut u64, numbers_len: usize) -> u32;
     #[rustfmt::skip]
@@ -58,6 +59,10 @@ pub fn read(bytes: &[u8], numbers_len: usize, connection_len: usize) -> Left {
 
 pub fn step(area: &[u8], at: usize, numbers_len: usize) -> Left {
     lend(numbers_len, 0, |numbers, _| unsafe { dawnhawse_step(area.as_ptr(), area.len(), at, numbers, numbers_len) })
+}
+
+pub fn next(area: &[u8], at: usize, numbers_len: usize) -> Left {
+    lend(numbers_len, 0, |numbers, _| unsafe { dawnhawse_next(area.as_ptr(), area.len(), at, numbers, numbers_len) })
 }
 
 pub fn lookup(area: &[u8], wanted: u8, limit: usize, numbers_len: usize) -> Left {

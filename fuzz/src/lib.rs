@@ -26,7 +26,8 @@ fn compare(input: &[u8]) -> Result<(), String> {
     let number = usize::from(u16::from_be_bytes([*high, *low]));
     let (connection, area) = input.split_at(input.len().min(SIZE));
     let (here, there) = match choice & 7 {
-        0 | 1 => (library::read(input, numbers, SIZE + 3), expected::read(input, numbers, SIZE + 3)),
+        0 => (library::read(input, numbers, SIZE + 3), expected::read(input, numbers, SIZE + 3)),
+        1 => (library::next(input, number, numbers), expected::next(input, number, numbers)),
         2 => (library::step(input, number, numbers), expected::step(input, number, numbers)),
         3 => (library::lookup(input, *high, usize::from(*low), numbers), expected::lookup(input, *high, usize::from(*low), numbers)),
         4 => (library::write_v1(input, number, numbers), expected::write_v1(input, number, numbers)),

@@ -39,7 +39,7 @@ pub use judge::{judge, Judge};
 pub use lookup::{lookup, Answer, Lookup};
 pub use record::{Kind, Record, Transport};
 pub use stored::{load, store};
-pub use tlv_area::{step, tlv_list, Step};
+pub use tlv_area::{next, step, tlv_list, Step};
 pub use verdict::{Header, Verdict};
 pub use whole::whole_header;
 pub use write::{write_v1, write_v2};

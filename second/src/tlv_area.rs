@@ -47,6 +47,23 @@ pub fn step(area: &[u8], place: usize) -> Step {
     }
 }
 
+/// The step from `place` with a look at one TLV, whatever lies behind it.
+pub fn next(area: &[u8], place: usize) -> Step {
+    match area.get(place..) {
+        Some([]) => Step::End,
+        Some([kind, high, low, rest @ ..]) if rest.len() >= usize::from(u16::from_be_bytes([*high, *low])) => {
+            let start = area.len() - rest.len();
+            let next = start + usize::from(u16::from_be_bytes([*high, *low]));
+            Step::Shown {
+                kind: *kind,
+                value: start..next,
+                next,
+            }
+        }
+        _ => Step::Refused { number: TLV_AREA },
+    }
+}
+
 /// Entry p is for the suffix from place p, down from the empty one: if TLVs
 /// fill it, the place where its first TLV ends. The empty one has its own place.
 fn first_tlv_ends(area: &[u8]) -> Vec<Option<usize>> {

@@ -1,7 +1,7 @@
 //! TLV lists and the walker's steps (document 01, Looking into TLVs).
 
 use crate::helpers::*;
-use second::{judge, step, tlv_list, Step, Verdict};
+use second::{judge, next, step, tlv_list, Step, Verdict};
 use std::ops::Range;
 
 const REFUSED: Step = Step::Refused { number: 12 };
@@ -98,6 +98,22 @@ fn a_step_may_start_inside_a_tlv_or_an_ill_formed_area() {
     assert_eq!(step(&ill_formed, 0), REFUSED);
     assert_eq!(step(&ill_formed, 1), REFUSED);
     assert_eq!(step(&ill_formed, 2), shown(4, 5..6, 6));
+}
+
+/// `next` looks at one TLV: what lies behind it does not matter, and where the rest is well-formed it is the step.
+#[test]
+fn next_looks_at_one_tlv() {
+    for place in [0, 5, 9, 12, 18, 19, usize::MAX] {
+        assert_eq!(next(&AREA, place), step(&AREA, place), "{place}");
+    }
+    assert_eq!(next(&[4, 0, 0, 1], 0), shown(4, 3..3, 3));
+    assert_eq!(next(&[4, 0, 0, 1], 3), REFUSED);
+    assert_eq!(next(&[4, 0, 1, 9, 5, 0, 1], 0), shown(4, 3..4, 4));
+    assert_eq!(next(&[4, 0, 1, 9, 5, 0, 1], 4), REFUSED);
+    assert_eq!(next(&[4, 0], 0), REFUSED);
+    assert_eq!(next(&[4, 1, 0], 0), REFUSED);
+    assert_eq!(next(&[], 0), Step::End);
+    assert_eq!(next(&[], 1), REFUSED);
 }
 
 #[test]

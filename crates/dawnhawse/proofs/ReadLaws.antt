@@ -1,0 +1,126 @@
+-- A reading that answers a verdict tells its numbers and its record.
+use mathlib.Core.Path.{_≡_, refl, sym, ap, _∙_}
+use mathlib.Core.Bool.{Bool, true, false}
+use mathlib.Core.List.{List, [], _∷_}
+use Prim.Native.Nat.{ℕ, _-_, _≤_, _<_, min}
+use native.Mathlib.Omega.{arith}
+use lib.Dec.{eqb}
+use lib.ListN.{length, take, drop, length-take, length-drop}
+use borrow.Author.Tests.{le-leb, lt-leb}
+use Rattle.exact.specs.Claim as Claim
+use Rattle.exact.specs.Pick.{pick}
+use Rattle.record.specs.declared.Kind.{Kind}
+use Rattle.record.specs.declared.Record.{Record}
+use Rattle.record.specs.AddressBlock.{blockRecord}
+use Rattle.header.specs.Header.{Header}
+use Rattle.answer.specs.declared.Verdict.{Verdict}
+use Rattle.answer.specs.declared.Verdict.the-variants.{Accepted, More, Refused}
+use Rattle.answer.specs.declared.Reading.{Reading}
+use Rattle.answer.specs.declared.Caller.{Caller}
+use Rattle.answer.specs.declared.Seen.{Seen}
+use Rattle.answer.specs.Sight.{callerRecord, inBytes, recordBy, readingOf}
+use Rattle.answer.specs.Answers.{Answers, toldVerdict, bareUnless}
+use Rattle.reader.specs.Area.{areaBy, blockEnd, areaStart, areaEnd}
+use Rattle.reader.specs.AreaLaws.{area-inside, area-part}
+use Rattle.interface.specs.declared.numbers.Told.{Told}
+use Rattle.interface.specs.Buffers.{over, toldIn, numbersSize}
+use Rattle.interface.specs.BufferLaws.{roomy}
+use Rattle.interface.specs.Connection.{connectionSize, connectionBytes}
+use Rattle.dawnhawse.specs.ReadInterface.{answerNumber, numbersOf, spokenRecord, roomFor, readAnswer, readNumbers, readConnection, toldOf}
+
+-- ── the record ──
+spoken-by : (s : List ℕ) (w : Verdict) (r : Reading) (v : Claim.Verdict Header) → toldVerdict s w r ≡ v → bareUnless w r → spokenRecord v ≡ r .record
+spoken-by s (Accepted n x) r v e u = ap spokenRecord (sym e)
+spoken-by s More r v e u = ap spokenRecord (sym e) ∙ sym u
+spoken-by s (Refused k p) r v e u = ap spokenRecord (sym e) ∙ sym u
+
+spoken : {s : List ℕ} {v : Claim.Verdict Header} {r : Reading} → Answers s v r → spokenRecord v ≡ r .record
+spoken {s} {v} {r} a = spoken-by s (r .verdict) r v (a .told) (a .unused)
+
+-- ── the numbers ──
+-- the area is no longer than the header
+end-by : (n size : ℕ) (b c : Bool) → pick b (pick c 0 (min n size)) 0 ≤ n
+end-by n size true true = omega arith
+end-by n size true false = omega arith
+end-by n size false c = omega arith
+
+pub end-within-header : (kind : Kind) (size n v : ℕ) → areaEnd (Accepted n v) kind size ≤ n
+end-within-header kind size n v = end-by n size (eqb v 2) (eqb (blockEnd kind) 0)
+
+area-length : (w : Verdict) (kind : Kind) (s : List ℕ) → length (areaBy w kind s) ≡ areaEnd w kind (length s) - areaStart w kind (length s)
+area-length w kind s =
+    let inside = area-inside w kind (length s) in
+    let size : length (take (areaEnd w kind (length s) - areaStart w kind (length s)) (drop (areaStart w kind (length s)) s)) ≡ areaEnd w kind (length s) - areaStart w kind (length s) =
+    simp (length-take, length-drop) (omega arith)
+    in
+    sym (ap length (area-part w kind s)) ∙ size
+
+abbrev four : Told → List ℕ
+four t = t .first ∷ t .second ∷ t .start ∷ t .length ∷ []
+
+-- what is told of a verdict is the answer and the numbers of what it says
+abbrev Tells : Claim.Verdict Header → Told → Type 0
+Tells v t = (t .answer ≡ answerNumber v) × (four t ≡ numbersOf v)
+
+tells-by : (s : List ℕ) (w : Verdict) (r : Reading) (v : Claim.Verdict Header) → toldVerdict s w r ≡ v → Tells v (toldOf w (r .record .kind) (length s))
+tells-by s (Accepted n x) r v e = (
+  ap answerNumber e,
+  ap (λ (m : ℕ). n ∷ x ∷ (n - m) ∷ m ∷ []) (sym (area-length (Accepted n x) (r .record .kind) s)) ∙ ap numbersOf e,
+)
+tells-by s More r v e = (ap answerNumber e, ap numbersOf e)
+tells-by s (Refused k p) r v e = (ap answerNumber e, ap numbersOf e)
+
+-- the kind of what is seen, wherever its addresses stand
+kind-seen : (w : Verdict) (s : List ℕ) (c : Caller) → recordBy w s c .kind ≡ c .kind
+kind-seen w s c = by (inBytes w)
+  where
+    by : (b : Bool) → pick b (blockRecord (c .kind) (drop 16 s)) (callerRecord c) .kind ≡ c .kind
+    by true = refl
+    by false = refl
+
+tells : (s : List ℕ) (v : Claim.Verdict Header) (seen : Seen) (t : Told) → Answers s v (readingOf s seen)
+    → t ≡ toldOf (seen .verdict) (seen .caller .kind) (length s) → Tells v t
+tells s v seen t a e =
+    let same : t ≡ toldOf (seen .verdict) (readingOf s seen .record .kind) (length s) =
+    e ∙ ap (λ (k : Kind). toldOf (seen .verdict) k (length s)) (sym (kind-seen (seen .verdict) s (seen .caller)))
+    in
+    rw same (tells-by s (seen .verdict) (readingOf s seen) v (a .told))
+
+-- ── the room ──
+pub room : (numbers connection : List ℕ) → numbersSize ≤ length numbers → connectionSize ≤ length connection → roomFor numbers connection ≡ true
+room numbers connection h k = simp (le-leb numbersSize (length numbers) h, le-leb connectionSize (length connection) k)
+
+pub few-numbers : (numbers connection : List ℕ) → length numbers < numbersSize → roomFor numbers connection ≡ false
+few-numbers numbers connection h = simp (lt-leb numbersSize (length numbers) h)
+
+pub short-connection : (numbers connection : List ℕ) → numbersSize ≤ length numbers → length connection < connectionSize → roomFor numbers connection ≡ false
+short-connection numbers connection h k = simp (le-leb numbersSize (length numbers) h, lt-leb connectionSize (length connection) k)
+
+-- ── what `dawnhawse_read` answers and leaves ──
+module _ (v : Claim.Verdict Header) (numbers connection : List ℕ) where
+  abbrev pub Left : ℕ → List ℕ → List ℕ → Type 0
+  Left answer n c = (answer ≡ readAnswer v numbers connection) × (n ≡ readNumbers v numbers connection) × (c ≡ readConnection v numbers connection)
+
+  pub untouched : roomFor numbers connection ≡ false → Left 14 numbers connection
+  untouched e = (
+    ap (λ (b : Bool). pick b (answerNumber v) 14) (sym e),
+    ap (λ (b : Bool). pick b (over (numbersOf v) numbers) numbers) (sym e),
+    ap (λ (b : Bool). pick b (over (connectionBytes (spokenRecord v)) connection) connection) (sym e),
+  )
+
+  pub written : (seen : Seen) (t : Told) (s n c : List ℕ) → numbersSize ≤ length numbers → connectionSize ≤ length connection → Answers s v (readingOf s seen)
+      → t ≡ toldOf (seen .verdict) (seen .caller .kind) (length s) → n ≡ toldIn numbersSize (four t) numbers
+      → c ≡ toldIn connectionSize (connectionBytes (recordBy (seen .verdict) s (seen .caller))) connection → Left (t .answer) n c
+  written seen t s n c h k a e en ec =
+      let enough = room numbers connection h k in
+      let said = tells s v seen t a e in (
+        said .0 ∙ ap (λ (b : Bool). pick b (answerNumber v) 14) (sym enough),
+        en
+            ∙ sym (roomy numbersSize numbers _ _ h)
+            ∙ ap (λ (l : List ℕ). over l numbers) (said .1)
+            ∙ ap (λ (b : Bool). pick b (over (numbersOf v) numbers) numbers) (sym enough),
+        ec
+            ∙ sym (roomy connectionSize connection _ _ k)
+            ∙ ap (λ (x : Record). over (connectionBytes x) connection) (sym (spoken a))
+            ∙ ap (λ (b : Bool). pick b (over (connectionBytes (spokenRecord v)) connection) connection) (sym enough),
+      )

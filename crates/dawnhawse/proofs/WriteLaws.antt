@@ -1,0 +1,60 @@
+-- What is left of a request, and of what a writer wrote into the part of the output that it may use.
+use mathlib.Core.Path.{_≡_, sym, ap, _∙_, subst}
+use mathlib.Core.Bool.{Bool, true, false}
+use mathlib.Core.List.{List, _++_, append-assoc}
+use Prim.Native.Nat.{ℕ, _≤_}
+use native.Mathlib.Omega.{arith}
+use lib.Dec.{eqb, leb}
+use lib.ListN.{length, take, drop, take-append-drop, length-take}
+use lib.Seq.{drop-append-le}
+use borrow.Author.Tests.{eq-eqb, ne-eqb, leb-true}
+use Rattle.exact.specs.Pick.{pick, pick-by}
+use Rattle.record.specs.declared.Record.{Record}
+use Rattle.answer.specs.declared.Written.{Written}
+use Rattle.answer.specs.Answers.{WriteAnswer, wrote, refuses, toldWritten, outputAfter}
+use Rattle.interface.specs.declared.connection.Asked.{Asked}
+use Rattle.interface.specs.Buffers.{numbersSize}
+use Rattle.dawnhawse.specs.WriteInterface.{roomBeside, askedAnswer, writtenNumber, numbersAfter, Writes}
+
+-- ── what a writer leaves of a part of the output ──
+-- what is written fits the room
+abbrev pub Within : ℕ → WriteAnswer → Type 0
+Within room (wrote n) = n ≤ room
+Within room (refuses k) = Unit {0}
+
+-- a writer that answers by the room at last
+pub fits-at-last : (n room k : ℕ) → Within room (pick (leb n room) (wrote n) (refuses k))
+fits-at-last n room k = pick-by (Within room) (leb n room) (λ t. leb-true n room t) (λ t. tt)
+
+-- the part that is left for the output
+pub room-inside : (numbers output : ℕ) → roomBeside numbers output ≤ output
+room-inside numbers output = pick-by (λ (r : ℕ). r ≤ output) (leb numbersSize numbers) (λ t. omega arith) (λ t. omega arith)
+
+-- a writer that wrote into the first bytes of an output has written the output
+part-output : (w : WriteAnswer) (text output : List ℕ) (room : ℕ) → room ≤ length output → Within room w
+    → outputAfter w text (take room output) ++ drop room output ≡ outputAfter w text output
+part-output (refuses k) text output room inside within = take-append-drop room output
+part-output (wrote n) text output room inside within =
+    let size = length-take room output in
+    append-assoc text (drop n (take room output)) (drop room output)
+    ∙ ap (λ (l : List ℕ). text ++ l) (sym (drop-append-le n (take room output) (drop room output) (omega arith)) ∙ ap (drop n) (take-append-drop room output))
+
+-- ── what is left of a request ──
+module _ (answerFor : Record → ℕ → WriteAnswer) (text : Record → List ℕ) (output numbers : List ℕ) (a : Asked) where
+  abbrev room : ℕ
+  room = roomBeside (length numbers) (length output)
+
+  abbrev Left : Asked → ℕ → List ℕ → List ℕ → Type 0
+  Left x answer o n = Writes (askedAnswer answerFor x room) (text (x .connection)) output numbers answer o n
+
+  pub refused : {x : Asked} → a ≡ x → (a .number ≡ 0 → ⊥) → Left x (a .number) output numbers
+  refused e h =
+      let is : refuses (a .number) ≡ askedAnswer answerFor a room =
+      ap (λ (b : Bool). pick b (answerFor (a .connection) room) (refuses (a .number))) (sym (ne-eqb (a .number) 0 h))
+      in
+      subst (λ (y : Asked). Left y (a .number) output numbers) e
+      (record {
+        answers = ap writtenNumber is;
+        writes = ap (λ (w : WriteAnswer). outputAfter w (text (a .connection)) output) is;
+        tells = ap (λ (w : WriteAnswer). numbersAfter w numbers) is;
+      })

@@ -1,0 +1,22 @@
+-- `head_at` ensures what is shown, which lies in the area, and `put_step` tells it.
+use mathlib.Core.Path.{sym, subst}
+use Prim.Native.Nat.{_+_, _≤_}
+use denote.Ref.{now}
+use lib.ListN.{length}
+use Rattle.walker.specs.Step.{Step, startOf, lengthOf}
+use Rattle.walker.specs.Facts.{head-room}
+use Rattle.dawnhawse.specs.TlvInterface.{Stepped}
+use borrow.Author.Needs.{needs}
+use Rattle.dawnhawse.proofs.tlvs.dawnhawse_next.Statement.{statement}
+use Rattle.dawnhawse.proofs.tlvs.dawnhawse_next.Tie as tie
+
+put-step-requires : tie.Need-put-step-requires
+put-step-requires c κs =
+    let x = c .before .before .before .args in
+    subst (λ (r : Step). startOf r + lengthOf r ≤ length (now (x .area))) (sym (c .before .head-at .ensures .0)) (head-room (now (x .area)) (x .at))
+
+returns : tie.Need-returns
+returns c = ?
+
+pub dawnhawse-next-spec : {M : Type 1} → statement M
+dawnhawse-next-spec = tie.close (tie.spec (λ c κs. search needs) put-step-requires (λ c. search needs) returns)

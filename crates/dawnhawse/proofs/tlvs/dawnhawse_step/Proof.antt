@@ -1,0 +1,22 @@
+-- `shown_at` ensures what is shown, which lies in the area, and `put_step` tells it.
+use mathlib.Core.Path.{sym, subst}
+use Prim.Native.Nat.{_+_, _≤_}
+use denote.Ref.{now}
+use lib.ListN.{length}
+use Rattle.walker.specs.Step.{Step, startOf, lengthOf}
+use Rattle.walker.specs.Facts.{step-room}
+use Rattle.dawnhawse.specs.TlvInterface.{Stepped}
+use borrow.Author.Needs.{needs}
+use Rattle.dawnhawse.proofs.tlvs.dawnhawse_step.Statement.{statement}
+use Rattle.dawnhawse.proofs.tlvs.dawnhawse_step.Tie as tie
+
+put-step-requires : tie.Need-put-step-requires
+put-step-requires c κs =
+    let x = c .before .before .before .args in
+    subst (λ (r : Step). startOf r + lengthOf r ≤ length (now (x .area))) (sym (c .before .shown-at .ensures)) (step-room (now (x .area)) (x .at))
+
+returns : tie.Need-returns
+returns c = ?
+
+pub dawnhawse-step-spec : {M : Type 1} → statement M
+dawnhawse-step-spec = tie.close (tie.spec (λ c κs. search needs) put-step-requires (λ c. search needs) returns)

@@ -1,0 +1,59 @@
+// The stored form, for C callers.
+use crate::write::room_beside;
+use crate::write::tell_written;
+use interface::CONNECTION;
+use interface::put_record;
+use interface::request;
+use store::Outcome;
+use store::flaw_number;
+ghost use mathlib.Core.Path.{_≡_};
+ghost use lib.ListN.{length};
+ghost use Rattle.store.specs.Stored.{stored, storeAnswer};
+ghost use Rattle.record.specs.declared.Record.{Record};
+ghost use Rattle.store.specs.Loading.{toldOutcome, loadAnswer};
+ghost use Rattle.interface.specs.Connection.{request as requestOf};
+ghost use Rattle.dawnhawse.specs.WriteInterface.{roomBeside, askedAnswer, Writes};
+ghost use Rattle.dawnhawse.specs.StoreInterface.{loadNumber, loadedNumber, loadedConnection};
+
+// Stores a connection; else as `dawnhawse_write_v1`.
+#[no_mangle]
+pub extern "C" fn dawnhawse_store(connection: &[u8], out: &mut [u8], numbers: &mut [u64]) -> u32
+    ensures { λ r. ⌜ Writes (askedAnswer storeAnswer (requestOf (now (connection .entry))) (roomBeside (length (now (numbers .entry))) (length (now (out .entry)))))
+        (stored (requestOf (now (connection .entry)) .connection))
+        (now (out .entry)) (now (numbers .entry)) r (now (out .exit)) (now (numbers .exit)) ⌝ }
+{
+    let asked = request(connection);
+    let number = asked.number;
+    let caller = asked.connection;
+    if number != 0 {
+        return number;
+    }
+    let room = room_beside(numbers.len(), out.len());
+    tell_written(store::store(caller, &mut out[..room]), numbers)
+}
+
+// The number of an outcome.
+fn outcome_number(outcome: Outcome) -> u32
+    ensures { λ r. ⌜ ((c : Record) → r ≡ loadNumber (toldOutcome outcome c)) ⌝ }
+{
+    match outcome {
+        Outcome::Accepted => 0,
+        Outcome::Refused(flaw) => flaw_number(flaw) as u32,
+    }
+}
+
+// Loads a connection. With room for its 221 bytes it is told; else nothing is written.
+#[no_mangle]
+pub extern "C" fn dawnhawse_load(stored: &[u8], connection: &mut [u8]) -> u32
+    ensures { λ r. ⌜ (r ≡ loadedNumber (loadAnswer (now (stored .entry))) (now (connection .entry)))
+        × (now (connection .exit) ≡ loadedConnection (loadAnswer (now (stored .entry))) (now (connection .entry))) ⌝ }
+{
+    if connection.len() < CONNECTION {
+        return 14;
+    }
+    let loaded = store::load(stored);
+    let outcome = loaded.outcome;
+    let caller = loaded.record;
+    put_record(caller, connection);
+    outcome_number(outcome)
+}
