@@ -90,7 +90,7 @@ module _ (l : Turn) where
   i = so-far .loop .i
 
   inside : i < 4
-  inside = l .before .before .before .loop-test .taken
+  inside = omega arith
 
   stop-is : l .before .before .if1 .stop ≡ endOf end (3 - i)
   stop-is =
