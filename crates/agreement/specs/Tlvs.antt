@@ -15,7 +15,7 @@ use Rattle.header.specs.Exactness.{judges-only}
 use Rattle.answer.specs.declared.Verdict.{Verdict}
 use Rattle.answer.specs.declared.Verdict.the-variants.{Accepted, More, Refused}
 use Rattle.answer.specs.declared.Reading.{Reading}
-use Rattle.answer.specs.Answers.{WriteAnswer, wrote, toldVerdict}
+use Rattle.answer.specs.Answers.{WriteAnswer, wrote, areaOf, toldVerdict}
 use Rattle.reader.specs.Read.{Reads}
 use Rattle.reader.specs.Area.{areaBy, readArea}
 use Rattle.block_writer.specs.Demand.{ReadsBack}
@@ -24,7 +24,10 @@ use Rattle.walker.specs.Laws.{walk-shows}
 
 -- the area of an accepted header is the one that the reading gives
 area-read : (s : List ℕ) (w : Verdict) (r : Reading) (h : Header) (n : ℕ) → toldVerdict s w r ≡ accepted h n → areaBy w (r .record .kind) s ≡ h .area
-area-read s (Accepted m v) r h n e = let same : _ ≡ h = cc in ap (λ (x : Header). x .area) same
+area-read s (Accepted m v) r h n e =
+    let said : Header = record { connection = r .record; version = v; area = areaOf v (r .record .kind) (take m s) } in
+    let same : said ≡ h = cc in
+    ap (λ (x : Header). x .area) same
 area-read s More r h n e = let z : _≡_ {A = ℕ} 0 1 = cc in absurd (omega arith)
 area-read s (Refused k p) r h n e = let z : _≡_ {A = ℕ} 0 1 = cc in absurd (omega arith)
 
@@ -39,4 +42,4 @@ tlvs-read-back r area output answer back n is t reading reads tlvs a =
     let said : toldVerdict s (reading .verdict) reading ≡ accepted (blocked r area) n =
     reads .answers .told ∙ sym (judges-only _ s (back n is t))
     in
-    subst (λ (b : List ℕ). Shows b 0 tlvs) (sym (area-read s (reading .verdict) reading (blocked r area) n said)) (walk-shows area tlvs a)
+    subst (λ (b : List ℕ). Shows b 0 tlvs) (sym (area-read s (reading .verdict) reading (blocked r area) n said)) (walk-shows area tlvs .0 a)

@@ -6,7 +6,7 @@ use Prim.Native.Nat.{ℕ, _≤_}
 use native.Mathlib.Omega.{arith}
 use lib.Dec.{eqb, leb}
 use lib.ListN.{length, take, drop, take-append-drop, length-take}
-use lib.Seq.{drop-append-le}
+use lib.Seq.{drop-append-le, length-take-le}
 use borrow.Author.Tests.{eq-eqb, ne-eqb, leb-true}
 use Rattle.exact.specs.Pick.{pick, pick-by}
 use Rattle.record.specs.declared.Record.{Record}
@@ -58,3 +58,41 @@ module _ (answerFor : Record → ℕ → WriteAnswer) (text : Record → List �
         writes = ap (λ (w : WriteAnswer). outputAfter w (text (a .connection)) output) is;
         tells = ap (λ (w : WriteAnswer). numbersAfter w numbers) is;
       })
+
+  -- w: what the writer answered over the part of the output that it may use, whose bytes it left as `part`
+  pub passed-on : {x : Asked} (within : (r : Record) (m : ℕ) → Within m (answerFor r m)) (w : Written) (beside : ℕ) (part : List ℕ) {answer : ℕ} {n : List ℕ}
+      → a ≡ x → a .number ≡ 0 → beside ≡ room
+      → toldWritten w ≡ answerFor (a .connection) (length (take beside output))
+      → part ≡ outputAfter (answerFor (a .connection) (length (take beside output))) (text (a .connection)) (take beside output)
+      → (answer ≡ writtenNumber (toldWritten w)) × (n ≡ numbersAfter (toldWritten w) numbers)
+      → Left x answer (part ++ drop beside output) n
+  passed-on within w beside part {answer} {n} e h same told left tells =
+      let inside = room-inside (length numbers) (length output) in
+      let size : length (take beside output) ≡ beside = length-take-le beside output (omega arith) in
+      let yes : answerFor (a .connection) room ≡ askedAnswer answerFor a room =
+      ap (λ (b : Bool). pick b (answerFor (a .connection) room) (refuses (a .number))) (sym (eq-eqb (a .number) 0 h))
+      in
+      let is : answerFor (a .connection) (length (take beside output)) ≡ askedAnswer answerFor a room =
+      ap (answerFor (a .connection)) (size ∙ same) ∙ yes
+      in
+      let whole : outputAfter (answerFor (a .connection) beside) (text (a .connection)) (take beside output) ++ drop beside output
+      ≡ outputAfter (answerFor (a .connection) beside) (text (a .connection)) output =
+      part-output (answerFor (a .connection) beside) (text (a .connection)) output beside (omega arith) (within (a .connection) beside)
+      in
+      subst (λ (y : Asked). Left y answer (part ++ drop beside output) n) e
+      (record {
+        answers = tells .0 ∙ ap writtenNumber (told ∙ is);
+        writes = ap (λ (l : List ℕ). l ++ drop beside output)
+            (left ∙ ap (λ (m : ℕ). outputAfter (answerFor (a .connection) m) (text (a .connection)) (take beside output)) size)
+            ∙ whole
+            ∙ ap (λ (v : WriteAnswer). outputAfter v (text (a .connection)) output) (ap (answerFor (a .connection)) same ∙ yes);
+        tells = tells .1 ∙ ap (λ (v : WriteAnswer). numbersAfter v numbers) (told ∙ is);
+      })
+
+-- ── the part that a writer may use ──
+module _ (numbers output : List ℕ) (beside : ℕ) (same : beside ≡ roomBeside (length numbers) (length output)) where
+  pub part-inside : beside ≤ length output
+  part-inside = let inside = room-inside (length numbers) (length output) in omega arith
+
+  pub part-size : beside ≡ length (take beside output)
+  part-size = sym (length-take-le beside output part-inside)

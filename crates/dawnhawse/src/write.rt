@@ -69,5 +69,8 @@ pub extern "C" fn dawnhawse_write_v2(
         return number;
     }
     let room = room_beside(numbers.len(), out.len());
-    tell_written(block_writer::write_block(caller, area, &mut out[..room]), numbers)
+    tell_written(
+        block_writer::write_block(caller, area, &mut out[..room]),
+        numbers,
+    )
 }

@@ -30,7 +30,7 @@ returns c =
     let x = span .before .args in
     let ends = span .area-span .ensures in
     let is = c .before .verdict .given .1 in
-    ap (λ (area : ℕ). told _ _ area) (ap₂ (λ (e s : ℕ). e - s) (ends .1) (ends .0) ∙ ap (λ (w : Verdict). areaEnd w (x .kind) (x .size) - areaStart w (x .kind) (x .size)) is)
+    ap (told (c .before .verdict .given .0 .0) (c .before .verdict .given .0 .1 .0)) (ap₂ (λ (e s : ℕ). e - s) (ends .1) (ends .0) ∙ ap (λ (w : Verdict). areaEnd w (x .kind) (x .size) - areaStart w (x .kind) (x .size)) is)
     ∙ ap (λ (w : Verdict). toldOf w (x .kind) (x .size)) (sym is)
 
 returns-2 : tie.Need-returns-2

@@ -1,32 +1,33 @@
 -- `load` ensures what is loaded, and it is told where there is room.
+use mathlib.Core.Path.{ap, _∙_}
 use native.Mathlib.Omega.{arith}
 use denote.Ref.{now}
-use Rattle.store.specs.Loading.{loadAnswer}
-use Rattle.dawnhawse.specs.StoreLaws.{load-told, load-untold}
+use Rattle.record.specs.declared.Record.{Record}
+use Rattle.store.specs.Loading.{LoadAnswer}
+use Rattle.interface.specs.Buffers.{toldIn}
+use Rattle.interface.specs.BufferLaws.{roomy, cramped}
+use Rattle.interface.specs.Connection.{connectionSize, connectionBytes}
+use Rattle.dawnhawse.specs.StoreInterface.{loadNumber}
 use borrow.Author.Needs.{needs}
 use Rattle.dawnhawse.proofs.stored.dawnhawse_load.Statement.{statement}
 use Rattle.dawnhawse.proofs.stored.dawnhawse_load.Tie as tie
 
 returns : tie.Need-returns
 returns c =
-    let x = c .before .before .before .args in
-    load-untold (loadAnswer (now (x .stored))) (now (x .connection)) (omega arith)
+    let connection = now (c .before .before .before .args .connection) in
+    (cramped connectionSize connection _ 14 (omega arith), cramped connectionSize connection _ connection (omega arith))
 
 returns-2 : tie.Need-returns-2
 returns-2 c =
     let connected = c .before .before .before in
     let loaded = connected .before .before .before in
-    let x = loaded .before .before .before .before .args in
-    load-told (loadAnswer (now (x .stored))) (now (x .connection)) (omega arith) (loaded .load .ensures) (c .outcome-number .ensures)
-    (connected .put-record .ensures)
+    let connection = now (loaded .before .before .before .before .args .connection) in
+    let found = loaded .load .ensures in (
+      c .outcome-number .ensures (loaded .load .result .«record») ∙ ap loadNumber (found .0) ∙ roomy connectionSize connection _ 14 (omega arith),
+      connected .put-record .ensures ∙ ap (λ (r : Record). toldIn connectionSize (connectionBytes r) connection) (found .1),
+    )
 
 pub dawnhawse-load-spec : {M : Type 1} → statement M
 dawnhawse-load-spec =
     tie.close
-    (tie.spec
-    returns
-    (λ c κs. search needs)
-    (λ c κs. search needs)
-    (λ c κs. search needs)
-    (λ c. search needs)
-    returns-2)
+    (tie.spec returns (λ c κs. search needs) (λ c κs. search needs) (λ c κs. search needs) (λ c. search needs) returns-2)

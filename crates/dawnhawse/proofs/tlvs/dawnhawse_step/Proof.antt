@@ -12,11 +12,15 @@ use Rattle.dawnhawse.proofs.tlvs.dawnhawse_step.Tie as tie
 
 put-step-requires : tie.Need-put-step-requires
 put-step-requires c κs =
-    let x = c .before .before .before .args in
+    let x = c .before .before .before .before .args in
     subst (λ (r : Step). startOf r + lengthOf r ≤ length (now (x .area))) (sym (c .before .shown-at .ensures)) (step-room (now (x .area)) (x .at))
 
 returns : tie.Need-returns
-returns c = ?
+returns c =
+    let put = c .before .before in
+    let x = put .before .before .before .before .before .args in
+    subst (λ (r : Step). Stepped (x .at) r (now (x .numbers)) (put .put-step .result) (put .put-step .last .1 .1 .1 .0)) (put .before .before .shown-at .ensures)
+    (put .put-step .ensures)
 
 pub dawnhawse-step-spec : {M : Type 1} → statement M
 dawnhawse-step-spec = tie.close (tie.spec (λ c κs. search needs) put-step-requires (λ c. search needs) returns)
