@@ -10,8 +10,8 @@ use Rattle.exact.specs.Claim.{accepted}
 use Rattle.tlv.specs.Tlv.{Tlv, Area}
 use Rattle.record.specs.declared.Record.{Record}
 use Rattle.header.specs.Header.{Header}
-use Rattle.header.specs.BlockFields.{blocked}
-use Rattle.header.specs.Exactness.{judges-only}
+use Rattle.fields.specs.BlockFields.{blocked}
+use Rattle.fields.specs.Exactness.{judges-only}
 use Rattle.answer.specs.declared.Verdict.{Verdict}
 use Rattle.answer.specs.declared.Verdict.the-variants.{Accepted, More, Refused}
 use Rattle.answer.specs.declared.Reading.{Reading}

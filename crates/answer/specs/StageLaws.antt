@@ -11,7 +11,7 @@ use Rattle.exact.specs.Stage.{stage-more, stage-refused, stage-accepted}
 use Rattle.exact.specs.Told.{told}
 use Rattle.exact.specs.declared.Scan.{Scan}
 use Rattle.header.specs.Header.{Header}
-use Rattle.header.specs.LineFields.{lined}
+use Rattle.fields.specs.LineFields.{lined}
 use Rattle.answer.specs.declared.Verdict.the-variants.{Accepted}
 use Rattle.answer.specs.declared.Caller.{Caller}
 use Rattle.answer.specs.declared.Seen.{Seen}

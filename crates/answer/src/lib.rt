@@ -5,7 +5,6 @@ ghost use mathlib.Core.Path.{_≡_};
 ghost use mathlib.Core.List.{List};
 ghost use Prim.Native.Nat.{ℕ};
 ghost use Rattle.exact.specs.Claim.{more as moreOf, refused as refusedOf};
-ghost use Rattle.record.specs.Records.{bare};
 ghost use Rattle.answer.specs.Answers.{numberOf, faultNumber};
 ghost use Rattle.answer.specs.Sight.{kindOnly, Sees};
 
@@ -51,19 +50,6 @@ pub enum Fault {
 pub enum Written {
     Bytes(usize),
     Refused(Fault),
-}
-
-// The record that says nothing of a caller, of this kind.
-pub fn blank(kind: Kind) -> Record
-    ensures { λ r. ⌜ r ≡ bare kind ⌝ }
-{
-    Record {
-        kind,
-        source: [0; 108],
-        destination: [0; 108],
-        source_port: 0,
-        destination_port: 0,
-    }
 }
 
 // Who is calling, as a text line says it: the addresses stand at the front of their arrays, with zeros behind them.

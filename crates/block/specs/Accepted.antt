@@ -8,7 +8,7 @@ use lib.Seq.{take-add, drop-at, length-take-le}
 use Rattle.exact.specs.Claim.{accepted}
 use Rattle.exact.specs.Field.{shift}
 use Rattle.record.specs.declared.Record.{Record}
-use Rattle.header.specs.BlockFields.{blocked}
+use Rattle.fields.specs.BlockFields.{blocked}
 use Rattle.answer.specs.declared.Seen.{Seen}
 use Rattle.answer.specs.Answers.{areaOf}
 use Rattle.answer.specs.Sight.{Sees}

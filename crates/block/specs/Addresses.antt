@@ -16,7 +16,7 @@ use Rattle.record.specs.Kinds.{addressLength, portLength, blockLength}
 use Rattle.record.specs.Records.{recordOf}
 use Rattle.record.specs.AddressBlock.{blockRecord}
 use Rattle.header.specs.Header.{Header}
-use Rattle.header.specs.BlockFields.{blocked, address, port, area, addresses, fits}
+use Rattle.fields.specs.BlockFields.{blocked, address, port, area, addresses, fits}
 use Rattle.answer.specs.declared.Seen.{Seen}
 use Rattle.answer.specs.Answers.{areaOf}
 use Rattle.answer.specs.Sight.{Sees}

@@ -9,7 +9,7 @@ use Rattle.record.specs.declared.Kind.the-variants.{Local, Unspecified, Ip4, Ip
 use Rattle.record.specs.Kinds.{blockLength}
 use Rattle.record.specs.Records.{bare}
 use Rattle.record.specs.AddressBlock.{blockRecord}
-use Rattle.header.specs.BlockFields.{skipped, addressed, familyRest}
+use Rattle.fields.specs.BlockFields.{skipped, addressed, familyRest}
 use Rattle.answer.specs.Answers.{blockArea}
 
 -- a kind without an address block

@@ -19,7 +19,7 @@ use Rattle.tlv.specs.Region.{judge, step, typeByte}
 use Rattle.record.specs.declared.Kind.{Kind}
 use Rattle.record.specs.declared.Kind.the-variants.{Local, Unspecified, Ip4, Ip6, Unix}
 use Rattle.record.specs.Kinds.{portLength}
-use Rattle.header.specs.BlockFields.{always, fits, port, area, tlvs}
+use Rattle.fields.specs.BlockFields.{always, fits, port, area, tlvs}
 use Rattle.block.specs.Parts.{numberAt, portAt}
 use Rattle.block.specs.Takes.{Short, Takes, next, next-full, then-short}
 

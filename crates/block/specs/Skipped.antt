@@ -10,7 +10,7 @@ use Rattle.exact.specs.Parser.{just, _then_}
 use Rattle.exact.specs.Byte.{count, countVerdict}
 use Rattle.record.specs.declared.Record.{Record}
 use Rattle.header.specs.Header.{Header}
-use Rattle.header.specs.BlockFields.{blocked, anyLength, skipped}
+use Rattle.fields.specs.BlockFields.{blocked, anyLength, skipped}
 use Rattle.block.specs.Parts.{numberAt}
 use Rattle.block.specs.Takes.{Short, next-short, then-at, short-at}
 use Rattle.block.specs.Leaves.{takes-number, takes-count}

@@ -20,9 +20,9 @@ use Rattle.record.specs.Unused.{cleanTest}
 use Rattle.record.specs.UnusedLaws.{clean-test}
 use Rattle.header.specs.Header.{Header, Whole}
 use Rattle.header.specs.Demand.{Judges}
-use Rattle.header.specs.BlockFields.{blocked}
-use Rattle.header.specs.Exactness.{judges-only}
-use Rattle.header.specs.Facts.{header-length}
+use Rattle.fields.specs.BlockFields.{blocked}
+use Rattle.fields.specs.Exactness.{judges-only}
+use Rattle.fields.specs.Facts.{header-length}
 use Rattle.answer.specs.Answers.{WriteAnswer, wrote, refuses, outputAfter}
 use Rattle.answer.specs.OutputLaws.{written-front}
 use Rattle.block_writer.specs.Areas.{AreaFits, areaTest}

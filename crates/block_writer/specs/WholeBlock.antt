@@ -13,7 +13,7 @@ use Rattle.record.specs.declared.Kind.{Kind}
 use Rattle.record.specs.declared.Kind.the-variants.{Local, Unspecified, Ip4, Ip6, Unix}
 use Rattle.record.specs.declared.Record.{Record}
 use Rattle.record.specs.Kinds.{family, byteOf, addressLength, portLength}
-use Rattle.record.specs.Records.{recordOf, bare}
+use Rattle.record.specs.Records.{recordWith, recordOf, bare}
 use Rattle.record.specs.AddressBlock.{addressBlock}
 use Rattle.record.specs.AddressBlockLaws.{address-size, made-again}
 use Rattle.exact.specs.Parser.{bytes-take}
@@ -99,18 +99,13 @@ module _ (r : Record) (area : List ℕ) (w : CarriedByBlock r area) where
 bare-made : (k : Kind) (p q : ℕ) (r : Record) → recordOf k [] [] p q ≡ r → p ≡ 0 → q ≡ 0 → r ≡ bare k
 bare-made k p q r e x y = sym e ∙ ap₂ (λ (m n : ℕ). recordOf k [] [] m n) x y
 
--- the record of these parts
-abbrev made : Kind → List ℕ → List ℕ → ℕ → ℕ → Record
-made k source destination p q =
-    record { kind = k; source = source; destination = destination; «source_port» = p; «destination_port» = q }
-
-pub block-of : (k : Kind) (s d : List ℕ) (p q : ℕ) (area : List ℕ) → CarriedByBlock (made k s d p q) area
-    → Block (writtenBlock (made k s d p q) area) (made k s d p q) area
+pub block-of : (k : Kind) (s d : List ℕ) (p q : ℕ) (area : List ℕ) → CarriedByBlock (recordWith k s d p q) area
+    → Block (writtenBlock (recordWith k s d p q) area) (recordWith k s d p q) area
 unfolding writtenBlock
 block-of Local s d p q area w =
     inl (
       record { byte13 = 0; block = area; framed = record { split = refl; small = w .small }; byte = omega arith; bytes = area-bytes area (w .tlvs) },
-      bare-made Local p q _ (made-again (made Local s d p q) (w .sized) (w .clean)) (w .clean .«source_port») (w .clean .«destination_port»),
+      bare-made Local p q _ (made-again (recordWith Local s d p q) (w .sized) (w .clean)) (w .clean .«source_port») (w .clean .«destination_port»),
       w .beside (λ x. x),
     )
 block-of Unspecified s d p q area w =
@@ -124,9 +119,9 @@ block-of Unspecified s d p q area w =
         table = refl;
         bytes = area-bytes area (w .tlvs);
       },
-      bare-made Unspecified p q _ (made-again (made Unspecified s d p q) (w .sized) (w .clean)) (w .clean .«source_port») (w .clean .«destination_port»),
+      bare-made Unspecified p q _ (made-again (recordWith Unspecified s d p q) (w .sized) (w .clean)) (w .clean .«source_port») (w .clean .«destination_port»),
       w .beside (λ x. x),
     ))
-block-of (Ip4 t) s d p q area w = inr (inr (address-block (made (Ip4 t) s d p q) area w tt))
-block-of (Ip6 t) s d p q area w = inr (inr (address-block (made (Ip6 t) s d p q) area w tt))
-block-of (Unix t) s d p q area w = inr (inr (address-block (made (Unix t) s d p q) area w tt))
+block-of (Ip4 t) s d p q area w = inr (inr (address-block (recordWith (Ip4 t) s d p q) area w tt))
+block-of (Ip6 t) s d p q area w = inr (inr (address-block (recordWith (Ip6 t) s d p q) area w tt))
+block-of (Unix t) s d p q area w = inr (inr (address-block (recordWith (Unix t) s d p q) area w tt))

@@ -1,18 +1,18 @@
 // The version 2 writer (document 01, "The binary block"). No public function has a `requires`.
 use answer::Fault;
 use answer::Written;
+use lent::put;
 use record::Kind;
 use record::Record;
 use record::block_length;
 use record::clean;
 use record::kind_byte;
-use record::put;
 use record::put_addresses;
 use tlv::well_formed;
 ghost use mathlib.Core.Path.{_≡_};
 ghost use Prim.Native.Nat.{_<_};
 ghost use lib.ListN.{length};
-ghost use Rattle.record.specs.Placed.{placed};
+ghost use Rattle.lent.specs.Placed.{placed};
 ghost use Rattle.answer.specs.Answers.{toldWritten, outputAfter};
 ghost use Rattle.block_writer.specs.Areas.{areaTest};
 ghost use Rattle.block_writer.specs.Written.{commandOf, headOf, writtenBlock, blockAnswer};

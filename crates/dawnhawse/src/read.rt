@@ -7,7 +7,7 @@ use interface::put_numbers;
 use interface::put_seen;
 use record::Kind;
 ghost use mathlib.Core.Path.{_≡_};
-ghost use Rattle.header.specs.Exactness.{verdict as verdictOn};
+ghost use Rattle.fields.specs.Exactness.{verdict as verdictOn};
 ghost use Rattle.dawnhawse.specs.ReadInterface.{readAnswer, readNumbers, readConnection, toldOf};
 
 // What a verdict on size bytes and the kind tell.

@@ -2,10 +2,4 @@ pub mod Line
 pub mod Block
 pub mod Header
 pub mod Demand
-pub mod LineFields
-pub mod BlockFields
-pub mod Places
-pub mod Exactness
 pub mod Table
-pub mod FactsForProofs
-pub mod Facts

@@ -1,17 +1,14 @@
--- The examples W01 to W14 of document 01, as one table under one statement: each answer is the one that demand 3 allows.
-use mathlib.Core.Path.{_≡_, refl, subst}
+-- The examples W01 to W14 of document 01, as one table under one statement: each answer is the one that demand 3 allows. `fields` proves it.
 use mathlib.Core.List.{List, [], _∷_, _++_}
 use Prim.Native.Nat.{ℕ}
 use Rattle.exact.specs.Ascii.{ascii}
 use Rattle.exact.specs.Claim.{Verdict, accepted, more, refused}
-use Rattle.text.specs.Ip4Leaf.{ip4Verdict}
 use Rattle.record.specs.declared.Transport.the-variants.{Stream}
 use Rattle.record.specs.declared.Kind.the-variants.{Local, Unspecified, Ip4, Ip6}
 use Rattle.record.specs.Records.{recordOf, bare}
 use Rattle.header.specs.Block.{signature}
 use Rattle.header.specs.Header.{Header}
 use Rattle.header.specs.Demand.{Judges}
-use Rattle.header.specs.Exactness.{verdict, judges}
 
 pub record Row : Type 0 where
   pub bytes : List ℕ
@@ -65,17 +62,3 @@ table =
 abbrev pub Right : List Row → Type 0
 Right [] = Unit {0}
 Right (r ∷ rows) = Judges (r .answer) (r .bytes) × Right rows
-
-abbrev Computed : List Row → Type 0
-Computed [] = Unit {0}
-Computed (r ∷ rows) = (verdict (r .bytes) ≡ r .answer) × Computed rows
-
-right : (rows : List Row) → Computed rows → Right rows
-right [] c = tt
-right (r ∷ rows) c = (subst (λ (v : Verdict Header). Judges v (r .bytes)) (c .0) (judges (r .bytes)), right rows (c .1))
-
-pub table-right : Right table
-unfolding ip4Verdict
-table-right =
-    right table
-    (refl, (refl, (refl, (refl, (refl, (refl, (refl, (refl, (refl, (refl, (refl, (refl, (refl, (refl, tt))))))))))))))

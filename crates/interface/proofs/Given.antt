@@ -1,5 +1,5 @@
 -- What is asked of a writer, by the tests on a connection's bytes, and the record that they give.
-use mathlib.Core.Path.{_≡_, sym, ap, ap₂, _∙_}
+use mathlib.Core.Path.{_≡_, sym, ap, _∙_}
 use mathlib.Core.Bool.{Bool, true, false}
 use mathlib.Core.List.{List, [], _++_, append-nil}
 use Prim.Native.Nat.{ℕ, _+_, _≤_}
@@ -8,13 +8,10 @@ use lib.Dec.{eqb}
 use lib.ListN.{length, take, drop, getD, length-take, length-drop, drop-of-length-le}
 use borrow.Author.Tests.{eq-eqb, ne-eqb}
 use Rattle.exact.specs.Pick.{pick}
-use Rattle.record.specs.declared.Kind.{Kind}
-use Rattle.record.specs.declared.Record.{Record}
-use Rattle.record.specs.AddressBlock.{numberAt}
-use Rattle.record.specs.Placed.{placed}
-use Rattle.record.specs.PlacedLaws.{placed-front}
+use Rattle.lent.specs.Placed.{placed}
+use Rattle.lent.specs.PlacedLaws.{placed-front}
 use Rattle.store.specs.Stored.{kindOf}
-use Rattle.interface.specs.Connection.{connectionSize, givenRecord, refusedWith, byKind, request}
+use Rattle.interface.specs.Connection.{connectionSize, refusedWith, byKind, request}
 
 module _ (b : List ℕ) where
   asks-by : (x : Bool) → eqb (length b) connectionSize ≡ x → pick x (byKind (kindOf (getD b 0 0)) b) (refusedWith 18) ≡ request b
@@ -38,12 +35,3 @@ pub put-part : (b d r : List ℕ) (at n : ℕ) → n ≡ 108 → at + 108 ≤ le
 put-part b d r at n e h l p =
     let size : length (take 108 (drop at b)) ≡ 108 = simp (length-take, length-drop) (omega arith) in
     put-whole 108 (take 108 (drop at b)) d r size l (p ∙ ap (λ (m : ℕ). placed (take m (drop at b)) 0 d) e)
-
--- a record, by its parts
-pub given : (k : Kind) (b x y : List ℕ) (p q : ℕ) → x ≡ take 108 (drop 1 b) → y ≡ take 108 (drop 109 b) → p ≡ numberAt b 217 → q ≡ numberAt b 219
-    → record { kind = k; source = x; destination = y; «source_port» = p; «destination_port» = q } ≡ givenRecord k b
-given k b x y p q ex ey ep eq =
-    let made : List ℕ → List ℕ → ℕ → ℕ → Record =
-    λ x y p q. record { kind = k; source = x; destination = y; «source_port» = p; «destination_port» = q }
-    in
-    ap₂ (λ (x y : List ℕ). made x y p q) ex ey ∙ ap₂ (λ (p q : ℕ). made (take 108 (drop 1 b)) (take 108 (drop 109 b)) p q) ep eq

@@ -1,5 +1,5 @@
 -- A connection's parts, put one behind the other, and whose parts they are.
-use mathlib.Core.Path.{_≡_, refl, sym, ap, ap₂, _∙_}
+use mathlib.Core.Path.{_≡_, refl, sym, ap, _∙_}
 use mathlib.Core.Bool.{Bool}
 use mathlib.Core.List.{List, [], _∷_, _++_, append-nil}
 use Prim.Native.Nat.{ℕ, _-_, _≤_, min}
@@ -10,10 +10,11 @@ use Rattle.record.specs.declared.Kind.{Kind}
 use Rattle.record.specs.declared.Record.{Record}
 use Rattle.record.specs.Kinds.{addressLength}
 use Rattle.record.specs.Records.{held, recordOf}
+use Rattle.record.specs.RecordLaws.{same-record}
 use Rattle.record.specs.AddressBlockLaws.{address-fits}
 use Rattle.record.specs.AddressBlock.{blockRecord}
-use Rattle.record.specs.Placed.{placed}
-use Rattle.record.specs.PlacedLaws.{placed-then, placed-front}
+use Rattle.lent.specs.Placed.{placed}
+use Rattle.lent.specs.PlacedLaws.{placed-then, placed-front}
 use Rattle.answer.specs.declared.Verdict.{Verdict}
 use Rattle.answer.specs.declared.Caller.{Caller}
 use Rattle.answer.specs.Sight.{callerRecord, inBytes, recordBy}
@@ -46,11 +47,8 @@ five-parts a b c p q d d₁ d₂ d₃ d₄ d₅ la lb lc lp lq room e₁ e₂ e�
 -- a record in memory, by its parts
 pub record-again : (r : Record) → length (r .source) ≡ 108 → length (r .destination) ≡ 108
     → recordOf (r .kind) (r .source) (r .destination) (r .«source_port») (r .«destination_port») ≡ r
-record-again r s d = ap₂ made (whole (r .source) s) (whole (r .destination) d)
+record-again r s d = same-record (r .kind) (whole (r .source) s) (whole (r .destination) d) refl refl
   where
-    made : List ℕ → List ℕ → Record
-    made x y = record { kind = r .kind; source = x; destination = y; «source_port» = r .«source_port»; «destination_port» = r .«destination_port» }
-
     whole : (a : List ℕ) → length a ≡ 108 → held a ≡ a
     whole a e = let none : 108 - length a ≡ 0 = omega arith in ap (λ (n : ℕ). a ++ replicate n 0) none ∙ append-nil a
 

@@ -10,7 +10,7 @@ use Rattle.record.specs.declared.Kind.{Kind}
 use Rattle.record.specs.declared.Kind.the-variants.{Unspecified}
 use Rattle.record.specs.declared.Record.{Record}
 use Rattle.record.specs.AddressBlock.{numberAt}
-use Rattle.record.specs.Records.{bare}
+use Rattle.record.specs.Records.{recordWith, bare}
 use Rattle.store.specs.Stored.{codeOf, kindOf}
 use Rattle.interface.specs.declared.connection.Asked.{Asked}
 
@@ -26,13 +26,7 @@ connectionBytes r =
 -- the record of a connection's bytes: `connectionBytes` the other way
 abbrev pub givenRecord : Kind → List ℕ → Record
 givenRecord k b =
-    record {
-      kind = k;
-      source = take 108 (drop 1 b);
-      destination = take 108 (drop 109 b);
-      «source_port» = numberAt b 217;
-      «destination_port» = numberAt b 219;
-    }
+    recordWith k (take 108 (drop 1 b)) (take 108 (drop 109 b)) (numberAt b 217) (numberAt b 219)
 
 -- what a writer is asked for: 18 for another length, 17 for an unknown kind code, as the stored form's reader says
 abbrev pub refusedWith : ℕ → Asked

@@ -1,15 +1,16 @@
 // A connection: the stored form's kind code, two addresses of 108 bytes, and two ports, high byte first.
 use crate::CONNECTION;
 use answer::Seen;
-use answer::blank;
+use lent::behind;
+use lent::front;
 use reader::in_bytes;
 use record::Family;
 use record::Kind;
 use record::Record;
 use record::address_length;
-use record::behind;
+use record::blank;
 use record::destination_port_of;
-use record::front;
+use record::record_with;
 use record::source_port_of;
 use store::code_of;
 use store::kind_of;
@@ -17,7 +18,7 @@ ghost use mathlib.Core.Path.{_≡_};
 ghost use Prim.Native.Nat.{_+_, _*_, _≤_};
 ghost use lib.ListN.{length, take, drop};
 ghost use Rattle.record.specs.Records.{held, recordOf};
-ghost use Rattle.record.specs.Placed.{placed};
+ghost use Rattle.lent.specs.Placed.{placed};
 ghost use Rattle.answer.specs.Sight.{recordBy};
 ghost use Rattle.interface.specs.Buffers.{over, toldIn};
 ghost use Rattle.interface.specs.Connection.{connectionSize, connectionBytes, givenRecord, request as requestOf};
@@ -28,8 +29,8 @@ fn put_address(address: &[u8], out: &mut [u8], at: usize)
     ensures { λ _. ⌜ now (out .exit) ≡ placed (held (now (address .entry))) at (now (out .entry)) ⌝ }
 {
     let zeros = [0u8; 108];
-    record::put(&zeros, out, at);
-    record::put(address, out, at);
+    lent::put(&zeros, out, at);
+    lent::put(address, out, at);
 }
 
 // Puts a connection's parts at the front of the output.
@@ -50,11 +51,11 @@ fn put_connection(
         (destination_port / 256) as u8,
         (destination_port % 256) as u8,
     ];
-    record::put(&code, out, 0);
+    lent::put(&code, out, 0);
     put_address(source, out, 1);
     put_address(destination, out, 109);
-    record::put(&from, out, 217);
-    record::put(&to, out, 219);
+    lent::put(&from, out, 217);
+    lent::put(&to, out, 219);
 }
 
 // Puts the connection that is seen in the bytes, where the output has room for it; else it stays as it is. The addresses are lent by the
@@ -119,7 +120,7 @@ fn address_at(bytes: &[u8], at: usize) -> [u8; 108]
 {
     let mut held = [0u8; 108];
     let end = at + 108;
-    record::put(&bytes[at..end], &mut held, 0);
+    lent::put(&bytes[at..end], &mut held, 0);
     held
 }
 
@@ -137,13 +138,13 @@ fn connection_of(kind: Kind, bytes: &[u8]) -> Record
 {
     let source = address_at(bytes, 1);
     let destination = address_at(bytes, 109);
-    Record {
+    record_with(
         kind,
         source,
         destination,
-        source_port: port(bytes[217], bytes[218]),
-        destination_port: port(bytes[219], bytes[220]),
-    }
+        port(bytes[217], bytes[218]),
+        port(bytes[219], bytes[220]),
+    )
 }
 
 // What a writer is asked for: a record, or the number that refuses it before its record is looked at.

@@ -15,7 +15,7 @@ use Rattle.record.specs.declared.Kind.{Kind}
 use Rattle.record.specs.Kinds.{addressLength}
 use Rattle.ip6.specs.Bounds.{address-bounds}
 use Rattle.header.specs.Line.{groupBytes}
-use Rattle.header.specs.Exactness.{address4, groups, address6}
+use Rattle.fields.specs.Exactness.{address4, groups, address6}
 use Rattle.answer.specs.declared.Caller.{Caller}
 use Rattle.answer.specs.Sight.{callerRecord, callerOf}
 use Rattle.line.specs.Families.{kindOf, toldBytes, padded, Unused, width, field}

@@ -19,8 +19,8 @@ use Rattle.exact.specs.Literal.{literal}
 use Rattle.record.specs.declared.Kind.the-variants.{Unspecified}
 use Rattle.record.specs.Records.{bare}
 use Rattle.header.specs.Header.{Header}
-use Rattle.header.specs.LineFields.{word, lined, lineFeed, fromSource, spaceField, restField, is4, isU, tcp4, tcp6, starts4, starts6, tcps, unknown, unknown-starts, tcps-starts, shortEnd, longEnd, isCr, unknownEnd}
-use Rattle.header.specs.Exactness.{address4, address6}
+use Rattle.fields.specs.LineFields.{word, lined, lineFeed, fromSource, spaceField, restField, is4, isU, tcp4, tcp6, starts4, starts6, tcps, unknown, unknown-starts, tcps-starts, shortEnd, longEnd, isCr, unknownEnd}
+use Rattle.fields.specs.Exactness.{address4, address6}
 use Rattle.line.specs.Families.{kindOf, field}
 
 abbrev pub fromSpace : Bool → Parser Header

@@ -13,7 +13,7 @@ use Rattle.record.specs.declared.Kind.{Kind}
 use Rattle.record.specs.declared.Kind.the-variants.{Ip4, Ip6}
 use Rattle.record.specs.Kinds.{addressLength}
 use Rattle.record.specs.Records.{held}
-use Rattle.header.specs.Exactness.{address4, address6}
+use Rattle.fields.specs.Exactness.{address4, address6}
 
 abbrev pub kindOf : Bool → Kind
 kindOf true = Ip6 Stream

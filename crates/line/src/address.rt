@@ -3,7 +3,7 @@ use exact::Scan;
 ghost use mathlib.Core.Path.{_≡_};
 ghost use Prim.Native.Nat.{_/_, _%_};
 ghost use Rattle.header.specs.Line.{groupBytes};
-ghost use Rattle.header.specs.Exactness.{address4 as fieldOf4, address6 as fieldOf6};
+ghost use Rattle.fields.specs.Exactness.{address4 as fieldOf4, address6 as fieldOf6};
 ghost use Rattle.line.specs.Families.{toldBytes, Unused, width, field};
 
 // The high byte of a group.

@@ -21,8 +21,8 @@ use Rattle.record.specs.Unused.{cleanTest}
 use Rattle.record.specs.UnusedLaws.{clean-test}
 use Rattle.header.specs.Header.{Whole}
 use Rattle.header.specs.Demand.{Judges}
-use Rattle.header.specs.LineFields.{lined}
-use Rattle.header.specs.Facts.{longest-tcp4, longest-tcp6}
+use Rattle.fields.specs.LineFields.{lined}
+use Rattle.fields.specs.Facts.{longest-tcp4, longest-tcp6}
 use Rattle.answer.specs.Answers.{WriteAnswer, wrote, refuses, outputAfter}
 use Rattle.answer.specs.OutputLaws.{written-front}
 use Rattle.line_writer.specs.Written.{HasForm, unspecified, tcp4, tcp6, hasForm, writtenLine, CarriedByLine, lineAnswer}

@@ -19,7 +19,7 @@ use Rattle.record.specs.Kinds.{addressLength}
 use Rattle.record.specs.Records.{recordOf, bare, PortFits, Clean, Sized}
 use Rattle.record.specs.AddressBlockLaws.{address-fits, made-again}
 use Rattle.header.specs.Line.{TcpLine, Ip6Address, Line}
-use Rattle.header.specs.Facts.{longest-tcp4, longest-tcp6}
+use Rattle.fields.specs.Facts.{longest-tcp4, longest-tcp6}
 use Rattle.draft.specs.Decimals.{decimal-text}
 use Rattle.line_writer.specs.Addresses.{octetsText, groupsText, groupsOf}
 use Rattle.line_writer.specs.Written.{hasForm, tcpText, lineText, writtenLine}

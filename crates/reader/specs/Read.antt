@@ -2,7 +2,7 @@
 use mathlib.Core.List.{List}
 use Prim.Native.Nat.{ℕ}
 use Rattle.header.specs.Demand.{Judges}
-use Rattle.header.specs.Exactness.{verdict}
+use Rattle.fields.specs.Exactness.{verdict}
 use Rattle.answer.specs.declared.Reading.{Reading}
 use Rattle.answer.specs.Answers.{Answers, toldReading}
 

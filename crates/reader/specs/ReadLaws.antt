@@ -10,8 +10,8 @@ use Rattle.exact.specs.Claim.{Verdict, more}
 use Rattle.exact.specs.Pick.{pick}
 use Rattle.header.specs.Header.{Header}
 use Rattle.header.specs.Demand.{Judges}
-use Rattle.header.specs.BlockFields.{block}
-use Rattle.header.specs.Exactness.{isP, lineField, verdict, judges}
+use Rattle.fields.specs.BlockFields.{block}
+use Rattle.fields.specs.Exactness.{isP, lineField, verdict, judges}
 use Rattle.answer.specs.declared.Seen.{Seen}
 use Rattle.answer.specs.Sight.{readingOf, callerBy, Sees}
 use Rattle.answer.specs.StageLaws.{sees-as}

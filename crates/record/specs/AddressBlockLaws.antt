@@ -1,5 +1,5 @@
 -- How long the parts of an address block are, and that a record and its address block give each other.
-use mathlib.Core.Path.{_≡_, refl, sym, ap, ap₂, _∙_, subst}
+use mathlib.Core.Path.{_≡_, refl, sym, ap, ap₂, _∙_}
 use mathlib.Core.List.{List, [], _∷_, _++_, append-assoc, append-nil}
 use Prim.Native.Nat.{ℕ, zero, suc, _+_, _-_, _/_, _%_, _≤_, _<_}
 use native.Mathlib.Numerals.{add-one}
@@ -14,6 +14,7 @@ use Rattle.record.specs.declared.Kind.{Kind}
 use Rattle.record.specs.declared.Kind.the-variants.{Local, Unspecified, Ip4, Ip6, Unix}
 use Rattle.record.specs.declared.Record.{Record}
 use Rattle.record.specs.Kinds.{addressLength, portLength, blockLength}
+use Rattle.record.specs.RecordLaws.{same-record}
 use Rattle.record.specs.HeldLaws.{held-length}
 use Rattle.record.specs.Records.{held, recordOf, PortFits, Clean, Sized}
 use Rattle.record.specs.AddressBlock.{addressBlock, numberAt, portAt, blockRecord}
@@ -84,9 +85,8 @@ pub made-again : (r : Record) → Sized r → Clean r
     → recordOf (r .kind) (take (addressLength (r .kind)) (r .source)) (take (addressLength (r .kind)) (r .destination)) (r .«source_port»)
     (r .«destination_port») ≡ r
 made-again r sized clean =
-    ap₂ (λ (a b : List ℕ). record { kind = r .kind; source = a; destination = b; «source_port» = r .«source_port»; «destination_port» = r .«destination_port» })
-    (held-again (r .kind) (r .source) (sized .source) (clean .source))
-    (held-again (r .kind) (r .destination) (sized .destination) (clean .destination))
+    same-record (r .kind) (held-again (r .kind) (r .source) (sized .source) (clean .source))
+    (held-again (r .kind) (r .destination) (sized .destination) (clean .destination)) refl refl
 
 -- ── ports ──
 number-again : (f g : List ℕ) (n i : ℕ) → length f ≡ i → numberAt (f ++ network n ++ g) i ≡ n

@@ -7,8 +7,8 @@ use native.Mathlib.Omega.{arith}
 use lib.ListN.{length, take, drop, getD, set, replicate, length-append, length-replicate}
 use lib.Seq.{paste, paste-suc, length-take-le}
 use Rattle.record.specs.Records.{held}
-use Rattle.record.specs.Placed.{placed}
-use Rattle.record.specs.PlacedLaws.{placed-over}
+use Rattle.lent.specs.Placed.{placed}
+use Rattle.lent.specs.PlacedLaws.{placed-over}
 
 -- an array of zeros
 abbrev pub blank : List ℕ

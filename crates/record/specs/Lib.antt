@@ -2,11 +2,9 @@ pub mod Kinds
 pub mod Told
 pub mod Table
 pub mod Records
+pub mod RecordLaws
 pub mod HeldLaws
 pub mod Unused
 pub mod UnusedLaws
 pub mod AddressBlock
 pub mod AddressBlockLaws
-pub mod Placed
-pub mod PlacedLaws
-pub mod PartLaws

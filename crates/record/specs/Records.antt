@@ -13,10 +13,14 @@ use Rattle.record.specs.Kinds.{addressLength}
 abbrev pub held : List ℕ → List ℕ
 held a = a ++ replicate (108 - length a) 0
 
+-- the record of these parts
+abbrev pub recordWith : Kind → List ℕ → List ℕ → ℕ → ℕ → Record
+recordWith k source destination p q =
+    record { kind = k; source = source; destination = destination; «source_port» = p; «destination_port» = q }
+
 -- the record of a kind, with its addresses and ports
 abbrev pub recordOf : Kind → List ℕ → List ℕ → ℕ → ℕ → Record
-recordOf k from to p q =
-    record { kind = k; source = held from; destination = held to; «source_port» = p; «destination_port» = q }
+recordOf k from to p q = recordWith k (held from) (held to) p q
 
 -- a record of a kind without addresses
 abbrev pub bare : Kind → Record

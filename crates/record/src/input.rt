@@ -2,9 +2,10 @@
 use crate::Kind;
 use crate::Record;
 use crate::address_length;
-use crate::part::behind;
-use crate::part::least;
 use crate::port_length;
+use crate::record_with;
+use lent::behind;
+use lent::least;
 ghost use mathlib.Core.Path.{_≡_};
 ghost use Prim.Native.Nat.{_+_, _≤_};
 ghost use lib.ListN.{take, getD};
@@ -38,13 +39,13 @@ pub fn record_from(
     ensures { λ r. ⌜ r ≡ recordOf kind (take (addressLength kind) (now (source .entry))) (take (addressLength kind) (now (destination .entry))) «source_port» «destination_port» ⌝ }
 {
     let n = address_length(kind);
-    Record {
+    record_with(
         kind,
-        source: held(source, n),
-        destination: held(destination, n),
+        held(source, n),
+        held(destination, n),
         source_port,
         destination_port,
-    }
+    )
 }
 
 // The byte at this place, or zero behind the end.

@@ -2,21 +2,17 @@
 // No public function has a `requires`.
 mod input;
 mod output;
-mod part;
 mod unused;
 
 pub use input::addresses_of;
 pub use input::destination_port_of;
 pub use input::record_from;
 pub use input::source_port_of;
-pub use output::put;
 pub use output::put_addresses;
-pub use part::behind;
-pub use part::front;
-pub use part::least;
 pub use unused::clean;
 ghost use mathlib.Core.Path.{_≡_};
 ghost use Rattle.record.specs.Told.{toldFamily};
+ghost use Rattle.record.specs.Records.{recordWith, bare};
 ghost use Rattle.record.specs.Kinds.{family, byteOf, addressLength, portLength, blockLength};
 
 // How a connection carries its bytes.
@@ -41,6 +37,32 @@ pub struct Record {
     pub destination: [u8; 108],
     pub source_port: u16,
     pub destination_port: u16,
+}
+
+// The record of these parts.
+pub fn record_with(
+    kind: Kind,
+    source: [u8; 108],
+    destination: [u8; 108],
+    source_port: u16,
+    destination_port: u16,
+) -> Record
+    ensures { λ r. ⌜ r ≡ recordWith kind source destination «source_port» «destination_port» ⌝ }
+{
+    Record {
+        kind,
+        source,
+        destination,
+        source_port,
+        destination_port,
+    }
+}
+
+// The record that says nothing of a caller, of this kind.
+pub fn blank(kind: Kind) -> Record
+    ensures { λ r. ⌜ r ≡ bare kind ⌝ }
+{
+    record_with(kind, [0; 108], [0; 108], 0, 0)
 }
 
 // What byte 13 says under PROXY.

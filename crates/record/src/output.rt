@@ -1,40 +1,16 @@
-// What is put into an output: bytes, and a record's address block.
+// A record's address block, put into an output.
 use crate::Kind;
 use crate::Record;
 use crate::address_length;
 use crate::block_length;
 use crate::port_length;
+use lent::put;
 ghost use mathlib.Core.Path.{_≡_};
-ghost use Prim.Native.Nat.{_+_, _≤_};
-ghost use lib.ListN.{length, take};
-ghost use lib.Seq.{paste};
+ghost use lib.ListN.{take};
 ghost use Rattle.exact.specs.Network.{network};
 ghost use Rattle.record.specs.Kinds.{portLength};
 ghost use Rattle.record.specs.AddressBlock.{addressBlock};
-ghost use Rattle.record.specs.Placed.{placed};
-
-// Copies the bytes to this place of the output.
-fn copy(bytes: &[u8], out: &mut [u8], at: usize)
-    requires { ⌜ at + length (now bytes) ≤ length (now out) ⌝ }
-    ensures { λ _. ⌜ now (out .exit) ≡ paste (now (out .entry)) at (now (bytes .entry)) (length (now (bytes .entry))) ⌝ }
-{
-    let mut i: usize = 0;
-    while i < bytes.len() {
-        out[at + i] = bytes[i];
-        i += 1;
-    }
-}
-
-// Puts the bytes at this place of the output, where they fit; else the output stays as it is.
-pub fn put(bytes: &[u8], out: &mut [u8], at: usize)
-    ensures { λ _. ⌜ now (out .exit) ≡ placed (now (bytes .entry)) at (now (out .entry)) ⌝ }
-{
-    if at <= out.len() {
-        if bytes.len() <= out.len() - at {
-            copy(bytes, out, at);
-        }
-    }
-}
+ghost use Rattle.lent.specs.Placed.{placed};
 
 // Puts a port of the kind in network order: nothing, where the kind has no ports.
 fn put_port(kind: Kind, port: u16, out: &mut [u8], at: usize)

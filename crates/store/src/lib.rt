@@ -2,15 +2,15 @@
 // No public function has a `requires`.
 use answer::Fault;
 use answer::Written;
-use answer::blank;
+use lent::put;
 use record::Family;
 use record::Kind;
 use record::Record;
 use record::Transport;
 use record::addresses_of;
+use record::blank;
 use record::block_length;
 use record::clean;
-use record::put;
 use record::put_addresses;
 ghost use mathlib.Core.Path.{_≡_};
 ghost use Prim.Native.Nat.{_≤_};

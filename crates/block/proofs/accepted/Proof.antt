@@ -3,7 +3,7 @@ use mathlib.Core.Path.{ap}
 use lib.ListN.{take, drop}
 use Rattle.exact.specs.Claim.{accepted as acceptedOf}
 use Rattle.record.specs.AddressBlock.{blockRecord}
-use Rattle.header.specs.BlockFields.{blocked}
+use Rattle.fields.specs.BlockFields.{blocked}
 use Rattle.answer.specs.declared.Caller.{Caller}
 use Rattle.answer.specs.Answers.{areaOf}
 use borrow.Author.Needs.{needs}

@@ -9,7 +9,7 @@ use lib.ListN.{length, drop, length-drop}
 use Rattle.exact.specs.Claim.{AllBytes, accepted, refused}
 use Rattle.record.specs.declared.Kind.{Kind}
 use Rattle.record.specs.Kinds.{blockLength}
-use Rattle.header.specs.BlockFields.{fits, blockLengthField, addresses, addressed}
+use Rattle.fields.specs.BlockFields.{fits, blockLengthField, addresses, addressed}
 use Rattle.answer.specs.StageLaws.{sees-as, as-refused, as-accepted}
 use Rattle.block.specs.Parts.{numberAt}
 use Rattle.block.specs.Takes.{bytes-of, bytes-drop, next-short, short-at}

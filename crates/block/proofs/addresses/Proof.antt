@@ -12,7 +12,7 @@ use Rattle.exact.specs.declared.Scan.{Scan}
 use Rattle.tlv.specs.Region.{judge}
 use Rattle.record.specs.declared.Kind.{Kind}
 use Rattle.record.specs.Kinds.{blockLength}
-use Rattle.header.specs.BlockFields.{addresses, block-small}
+use Rattle.fields.specs.BlockFields.{addresses, block-small}
 use Rattle.answer.specs.StageLaws.{sees-as, said}
 use Rattle.block.specs.Takes.{bytes-of, short-at}
 use Rattle.block.specs.Leaves.{fits-over}

@@ -10,7 +10,7 @@ use Rattle.exact.specs.Parser.{Parser, _then_}
 use Rattle.exact.specs.Told.{told}
 use Rattle.exact.specs.declared.Scan.{Scan}
 use Rattle.header.specs.Header.{Header}
-use Rattle.header.specs.BlockFields.{signatureField, command, commandRest}
+use Rattle.fields.specs.BlockFields.{signatureField, command, commandRest}
 use Rattle.answer.specs.StageLaws.{sees-as, first-more, first-refused, first-accepted}
 use Rattle.block.proofs.block.Statement.{statement}
 use Rattle.block.proofs.block.Tie as tie

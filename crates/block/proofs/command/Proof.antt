@@ -12,7 +12,7 @@ use Rattle.exact.specs.Claim.{AllBytes}
 use Rattle.exact.specs.Parser.{_then_}
 use Rattle.record.specs.declared.Kind.the-variants.{Local}
 use Rattle.record.specs.Records.{bare}
-use Rattle.header.specs.BlockFields.{local, proxy, commandOf, command, commandRest, anyByte, skipped}
+use Rattle.fields.specs.BlockFields.{local, proxy, commandOf, command, commandRest, anyByte, skipped}
 use Rattle.answer.specs.StageLaws.{sees-as, as-refused, as-accepted}
 use Rattle.block.specs.Takes.{bytes-of, bytes-drop, next-short, short-at, pass-at}
 use Rattle.block.specs.Leaves.{byte-short, byte-full, takes-byte}

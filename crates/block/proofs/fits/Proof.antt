@@ -5,7 +5,7 @@ use native.Mathlib.Omega.{arith}
 use borrow.Author.Tests.{eq-eqb, ne-eqb}
 use borrow.Author.Needs.{needs}
 use Rattle.record.specs.Kinds.{blockLength}
-use Rattle.header.specs.BlockFields.{fits, block-small}
+use Rattle.fields.specs.BlockFields.{fits, block-small}
 use Rattle.block.proofs.fits.Statement.{statement}
 use Rattle.block.proofs.fits.Tie as tie
 

@@ -9,7 +9,7 @@ use lib.Seq.{getD-drop}
 use Rattle.exact.specs.Claim.{AllBytes}
 use Rattle.exact.specs.Parser.{_then_}
 use Rattle.record.specs.Kinds.{family}
-use Rattle.header.specs.BlockFields.{familyField, familyRest}
+use Rattle.fields.specs.BlockFields.{familyField, familyRest}
 use Rattle.answer.specs.StageLaws.{sees-as, as-refused, as-accepted}
 use Rattle.record.specs.declared.Family.{Family}
 use Rattle.record.specs.Told.{toldFamily}

@@ -10,7 +10,7 @@ use Rattle.exact.specs.Field.{shift}
 use Rattle.record.specs.declared.Kind.{Kind}
 use Rattle.record.specs.Records.{bare}
 use Rattle.record.specs.AddressBlock.{blockRecord}
-use Rattle.header.specs.BlockFields.{blocked}
+use Rattle.fields.specs.BlockFields.{blocked}
 use Rattle.answer.specs.StageLaws.{sees-as}
 use Rattle.block.specs.Parts.{numberAt}
 use Rattle.block.specs.Takes.{bytes-of}

@@ -9,30 +9,6 @@ use Rattle.tlv.specs.Test.{wellFormed, tested-is}
 use Rattle.block_writer.proofs.area_fits.Statement.{statement}
 use Rattle.block_writer.proofs.area_fits.Tie as tie
 
-enum-told : tie.Need-enum-told
-enum-told c = search needs
-
-enum-told-2 : tie.Need-enum-told-2
-enum-told-2 c = search needs
-
-enum-told-3 : tie.Need-enum-told-3
-enum-told-3 c = search needs
-
-well-formed-requires : tie.Need-well-formed-requires
-well-formed-requires c κs = search needs
-
-enum-told-4 : tie.Need-enum-told-4
-enum-told-4 c = search needs
-
-well-formed-requires-2 : tie.Need-well-formed-requires-2
-well-formed-requires-2 c κs = search needs
-
-enum-told-5 : tie.Need-enum-told-5
-enum-told-5 c = search needs
-
-well-formed-requires-3 : tie.Need-well-formed-requires-3
-well-formed-requires-3 c κs = search needs
-
 tested : (b : Bool) (area : List ℕ) → (b ≡ true → WellFormed area) × (WellFormed area → b ≡ true) → b ≡ wellFormed area
 tested b area e = sym (tested-is area b (e .0) (e .1))
 
@@ -55,14 +31,14 @@ pub area-fits-spec : {M : Type 1} → statement M
 area-fits-spec =
     tie.close
     (tie.spec
-    enum-told
-    enum-told-2
-    enum-told-3
-    well-formed-requires
-    enum-told-4
-    well-formed-requires-2
-    enum-told-5
-    well-formed-requires-3
+    (λ c. search needs)
+    (λ c. search needs)
+    (λ c. search needs)
+    (λ c κs. search needs)
+    (λ c. search needs)
+    (λ c κs. search needs)
+    (λ c. search needs)
+    (λ c κs. search needs)
     returns
     returns-2
     returns-3

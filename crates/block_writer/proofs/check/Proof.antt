@@ -13,7 +13,7 @@ use Rattle.record.specs.declared.Record.{Record}
 use Rattle.record.specs.Records.{Sized}
 use Rattle.record.specs.Unused.{cleanTest}
 use Rattle.record.proofs.InMemory.{in-memory}
-use Rattle.header.specs.BlockFields.{block-small}
+use Rattle.fields.specs.BlockFields.{block-small}
 use Rattle.answer.specs.Answers.{wrote}
 use Rattle.block_writer.specs.Areas.{areaTest}
 use Rattle.block_writer.specs.Written.{blockOf, writtenBlock}

@@ -23,15 +23,6 @@ module _ {end : ℕ} {s : List ℕ} {t : Scan} {g : List ℕ} where
 returns : tie.Need-returns
 returns c = let none = c .if1 .taken in wants (omega arith)
 
-shared-slice-read-if2 : tie.Need-shared-slice-read-if2
-shared-slice-read-if2 c = search needs
-
-colon-requires : tie.Need-colon-requires
-colon-requires c κs = search needs
-
-group-requires : tie.Need-group-requires
-group-requires c κs = search needs
-
 returns-2 : tie.Need-returns-2
 returns-2 c = at-colon (c .before .before .before .before .before .before .if1 .left) (c .before .before .before .before .if2 .taken) (c .colon .ensures)
 
@@ -40,4 +31,11 @@ returns-3 c = at-group (c .before .before .before .before .before .before .if1 .
 
 pub begun-spec : {M : Type 1} → statement M
 begun-spec =
-    tie.close (tie.spec returns shared-slice-read-if2 colon-requires group-requires returns-2 returns-3)
+    tie.close
+    (tie.spec
+    returns
+    (λ c. search needs)
+    (λ c κs. search needs)
+    (λ c κs. search needs)
+    returns-2
+    returns-3)

@@ -9,15 +9,6 @@ use Rattle.ip6.proofs.Spread.{finish-full, finish-few, finish-gapped}
 use Rattle.ip6.proofs.finished.Statement.{statement}
 use Rattle.ip6.proofs.finished.Tie as tie
 
-add-place : tie.Need-add-place
-add-place c = search needs
-
-spread-out-requires : tie.Need-spread-out-requires
-spread-out-requires c κs = search needs
-
-add-place-2 : tie.Need-add-place-2
-add-place-2 c = search needs
-
 returns : tie.Need-returns
 returns c =
     record {
@@ -42,4 +33,11 @@ returns-3 c =
     }
 
 pub finished-spec : {M : Type 1} → statement M
-finished-spec = tie.close (tie.spec add-place spread-out-requires add-place-2 returns returns-2 returns-3)
+finished-spec = tie.close
+    (tie.spec
+    (λ c. search needs)
+    (λ c κs. search needs)
+    (λ c. search needs)
+    returns
+    returns-2
+    returns-3)

@@ -9,26 +9,23 @@ use Rattle.ip6.proofs.hex_value.Tie as tie
 returns : tie.Need-returns
 returns c = sym (hex-before _ (c .if1 .taken))
 
-cast-i : tie.Need-cast-i
-cast-i c = search needs
-
 returns-2 : tie.Need-returns-2
 returns-2 c = sym (hex-behind _ (omega arith))
 
-shr-if3 : tie.Need-shr-if3
-shr-if3 c = search needs
-
 returns-3 : tie.Need-returns-3
 returns-3 c = sym (hex-clear _ (omega arith) (omega arith) (c .if3 .taken))
-
-mul-result : tie.Need-mul-result
-mul-result c = search needs
-
-add-result : tie.Need-add-result
-add-result c = search needs
 
 returns-4 : tie.Need-returns-4
 returns-4 c = hex-set _ (omega arith) (omega arith) (c .if3 .left)
 
 pub hex-value-spec : {M : Type 1} → statement M
-hex-value-spec = tie.close (tie.spec returns cast-i returns-2 shr-if3 returns-3 mul-result add-result returns-4)
+hex-value-spec = tie.close
+    (tie.spec
+    returns
+    (λ c. search needs)
+    returns-2
+    (λ c. search needs)
+    returns-3
+    (λ c. search needs)
+    (λ c. search needs)
+    returns-4)

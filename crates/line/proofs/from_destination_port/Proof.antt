@@ -14,7 +14,7 @@ use Rattle.record.specs.declared.Record.{Record}
 use Rattle.record.specs.Kinds.{addressLength}
 use Rattle.record.specs.Records.{recordOf}
 use Rattle.header.specs.Header.{Header}
-use Rattle.header.specs.LineFields.{lined, lineFeed, destinationPort}
+use Rattle.fields.specs.LineFields.{lined, lineFeed, destinationPort}
 use Rattle.line.specs.Families.{kindOf, width}
 use Rattle.line.specs.AddressLaws.{own-caller}
 use Rattle.answer.specs.StageLaws.{sees-as, said, as-more, as-refused, as-accepted}

@@ -11,7 +11,7 @@ use Rattle.exact.specs.declared.Scan.{Scan}
 use Rattle.header.specs.Header.{Header}
 use Rattle.record.specs.declared.Kind.the-variants.{Unspecified}
 use Rattle.record.specs.Records.{bare}
-use Rattle.header.specs.LineFields.{lined, restField}
+use Rattle.fields.specs.LineFields.{lined, restField}
 use Rattle.answer.specs.StageLaws.{said, as-more, as-refused, as-accepted, as-line}
 use Rattle.answer.specs.Sight.{kindOnly}
 use borrow.Author.Needs.{needs}

@@ -9,7 +9,7 @@ use Rattle.exact.specs.Stage.{stage-inside, stage-place}
 use Rattle.exact.specs.Parser.{Parser}
 use Rattle.exact.specs.declared.Scan.{Scan}
 use Rattle.header.specs.Header.{Header}
-use Rattle.header.specs.LineFields.{fromDestination}
+use Rattle.fields.specs.LineFields.{fromDestination}
 use Rattle.line.specs.Families.{kindOf, width, field, toldBytes}
 use Rattle.line.specs.AddressLaws.{said-found, found-padded}
 use Rattle.answer.specs.StageLaws.{as-more, as-refused, as-accepted}

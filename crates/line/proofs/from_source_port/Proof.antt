@@ -9,7 +9,7 @@ use Rattle.exact.specs.Stage.{stage-inside, stage-member, stage-place}
 use Rattle.exact.specs.Parser.{Parser}
 use Rattle.exact.specs.declared.Scan.{Scan}
 use Rattle.header.specs.Header.{Header}
-use Rattle.header.specs.LineFields.{sourcePort, fromDestinationPort}
+use Rattle.fields.specs.LineFields.{sourcePort, fromDestinationPort}
 use Rattle.line.specs.Families.{kindOf, width}
 use Rattle.answer.specs.StageLaws.{said, as-more, as-refused, as-accepted}
 use borrow.Author.Needs.{needs}

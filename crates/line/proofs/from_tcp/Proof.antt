@@ -9,7 +9,7 @@ use Rattle.exact.specs.Stage.{stage-inside, stage-place}
 use Rattle.exact.specs.Parser.{Parser}
 use Rattle.exact.specs.declared.Scan.{Scan}
 use Rattle.header.specs.Header.{Header}
-use Rattle.header.specs.LineFields.{tcpWord}
+use Rattle.fields.specs.LineFields.{tcpWord}
 use Rattle.line.specs.Choices.{families}
 use Rattle.answer.specs.StageLaws.{said, as-more, as-refused, as-accepted}
 use borrow.Author.Needs.{needs}
@@ -32,38 +32,8 @@ module _ (c : tie.After-literal) where
   found : (x : Scan) → c .literal .result ≡ x → told 2 x ≡ tcpWord .verdict (drop at text)
   found x e = said 2 (tcpWord .verdict) text at e (c .literal .ensures .0 2)
 
-sub-literal : tie.Need-sub-literal
-sub-literal c = search needs
-
-part-literal-start : tie.Need-part-literal-start
-part-literal-start c = search needs
-
-part-literal-end : tie.Need-part-literal-end
-part-literal-end c = search needs
-
-slice-aggregate-literal : tie.Need-slice-aggregate-literal
-slice-aggregate-literal c = search needs
-
-literal-requires : tie.Need-literal-requires
-literal-requires c κs = search needs
-
-enum-told : tie.Need-enum-told
-enum-told c = search needs
-
-more-requires : tie.Need-more-requires
-more-requires c κs = search needs
-
-enum-known-place : tie.Need-enum-known-place
-enum-known-place c = search needs
-
 add-refused : tie.Need-add-refused
 add-refused c = let ran = c .before .before .before in let h = stage-place tcpWord (text ran) (at ran) (start ran .pre) 2 _ (found ran _ (c .before .place .given .1)) in omega arith
-
-refused-requires : tie.Need-refused-requires
-refused-requires c κs = search needs
-
-enum-known-n : tie.Need-enum-known-n
-enum-known-n c = search needs
 
 add-from-family : tie.Need-add-from-family
 add-from-family c = let ran = c .before .before .before in let h = stage-inside tcpWord (text ran) (at ran) (start ran .pre) _ _ (found ran _ (c .before .n .given .1)) in omega arith
@@ -84,17 +54,17 @@ pub from-tcp-spec : {M : Type 1} → statement M
 from-tcp-spec =
     tie.close
     (tie.spec
-    sub-literal
-    part-literal-start
-    part-literal-end
-    slice-aggregate-literal
-    literal-requires
-    enum-told
-    more-requires
-    enum-known-place
+    (λ c. search needs)
+    (λ c. search needs)
+    (λ c. search needs)
+    (λ c. search needs)
+    (λ c κs. search needs)
+    (λ c. search needs)
+    (λ c κs. search needs)
+    (λ c. search needs)
     add-refused
-    refused-requires
-    enum-known-n
+    (λ c κs. search needs)
+    (λ c. search needs)
     add-from-family
     from-family-requires
     returns

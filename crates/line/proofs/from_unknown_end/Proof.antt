@@ -3,7 +3,7 @@ use Prim.Native.Nat.{_+_}
 use mathlib.Core.Path.{_≡_, refl, sym, ap, subst}
 use lib.ListN.{drop}
 use Rattle.exact.specs.Field.{shift}
-use Rattle.header.specs.LineFields.{lined, lineFeed}
+use Rattle.fields.specs.LineFields.{lined, lineFeed}
 use Rattle.answer.specs.StageLaws.{sees-as}
 use Rattle.line.specs.Choices.{choice-none, end-cr, end-space, end-other}
 use Rattle.answer.specs.declared.Caller.{Caller}

@@ -6,7 +6,7 @@ use Rattle.exact.specs.Claim.{accepted}
 use Rattle.exact.specs.Parser.{reach-le}
 use Rattle.exact.specs.Told.{told}
 use Rattle.exact.specs.declared.Scan.{Scan}
-use Rattle.header.specs.LineFields.{proxyWord}
+use Rattle.fields.specs.LineFields.{proxyWord}
 use Rattle.answer.specs.StageLaws.{first-more, first-refused, first-accepted}
 use Rattle.line.specs.Choices.{words}
 use borrow.Author.Needs.{needs}
@@ -19,27 +19,6 @@ module _ (c : tie.After-literal) where
 
   found : (x : Scan) → c .literal .result ≡ x → told 1 x ≡ proxyWord .verdict text
   found x e = ap (told 1) (sym e) ∙ c .literal .ensures .0 1
-
-slice-aggregate-literal : tie.Need-slice-aggregate-literal
-slice-aggregate-literal c = search needs
-
-literal-requires : tie.Need-literal-requires
-literal-requires c κs = search needs
-
-enum-told : tie.Need-enum-told
-enum-told c = search needs
-
-more-requires : tie.Need-more-requires
-more-requires c κs = search needs
-
-enum-known-place : tie.Need-enum-known-place
-enum-known-place c = search needs
-
-refused-requires : tie.Need-refused-requires
-refused-requires c κs = search needs
-
-enum-known-n : tie.Need-enum-known-n
-enum-known-n c = search needs
 
 from-word-requires : tie.Need-from-word-requires
 from-word-requires c κs = let ran = c .before .before .before in reach-le proxyWord (text ran) (accepted _ _) (found ran _ (c .before .n .given .1))
@@ -57,13 +36,13 @@ pub line-spec : {M : Type 1} → statement M
 line-spec =
     tie.close
     (tie.spec
-    slice-aggregate-literal
-    literal-requires
-    enum-told
-    more-requires
-    enum-known-place
-    refused-requires
-    enum-known-n
+    (λ c. search needs)
+    (λ c κs. search needs)
+    (λ c. search needs)
+    (λ c κs. search needs)
+    (λ c. search needs)
+    (λ c κs. search needs)
+    (λ c. search needs)
     from-word-requires
     returns
     returns-2

@@ -9,7 +9,7 @@ use Rattle.exact.specs.Stage.{stage-inside, stage-place}
 use Rattle.exact.specs.Parser.{Parser, just}
 use Rattle.header.specs.Header.{Header}
 use Rattle.exact.specs.declared.Scan.{Scan}
-use Rattle.header.specs.LineFields.{lined, lfField}
+use Rattle.fields.specs.LineFields.{lined, lfField}
 use Rattle.answer.specs.StageLaws.{said, as-more, as-refused, as-accepted, as-line}
 use Rattle.answer.specs.Sight.{callerRecord}
 use borrow.Author.Needs.{needs}

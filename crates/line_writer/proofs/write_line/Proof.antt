@@ -7,8 +7,8 @@ use borrow.Author.Needs.{needs}
 use denote.Ref.{now}
 use Rattle.record.specs.declared.Record.{Record}
 use Rattle.record.specs.Records.{Sized}
-use Rattle.record.specs.Placed.{placed}
-use Rattle.record.specs.PlacedLaws.{placed-start}
+use Rattle.lent.specs.Placed.{placed}
+use Rattle.lent.specs.PlacedLaws.{placed-start}
 use Rattle.record.proofs.InMemory.{in-memory}
 use Rattle.draft.specs.Drafts.{draftOf}
 use Rattle.draft.specs.DraftLaws.{appended-draft, draft-size, draft-says, draft-room}

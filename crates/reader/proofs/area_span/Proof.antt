@@ -6,24 +6,6 @@ use borrow.Author.Needs.{needs}
 use Rattle.reader.proofs.area_span.Statement.{statement}
 use Rattle.reader.proofs.area_span.Tie as tie
 
-enum-known-verdict : tie.Need-enum-known-verdict
-enum-known-verdict c = search needs
-
-block-end-requires : tie.Need-block-end-requires
-block-end-requires c κs = search needs
-
-least-requires : tie.Need-least-requires
-least-requires c κs = search needs
-
-least-requires-2 : tie.Need-least-requires-2
-least-requires-2 c κs = search needs
-
-enum-told : tie.Need-enum-told
-enum-told c = search needs
-
-enum-told-2 : tie.Need-enum-told-2
-enum-told-2 c = search needs
-
 returns : tie.Need-returns
 returns c =
     let told = c .before .before .before .before in
@@ -55,12 +37,12 @@ pub area-span-spec : {M : Type 1} → statement M
 area-span-spec =
     tie.close
     (tie.spec
-    enum-known-verdict
-    block-end-requires
-    least-requires
-    least-requires-2
-    enum-told
-    enum-told-2
+    (λ c. search needs)
+    (λ c κs. search needs)
+    (λ c κs. search needs)
+    (λ c κs. search needs)
+    (λ c. search needs)
+    (λ c. search needs)
     returns
     returns-2
     returns-3

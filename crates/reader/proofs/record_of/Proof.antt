@@ -9,24 +9,6 @@ use borrow.Author.Needs.{needs}
 use Rattle.reader.proofs.record_of.Statement.{statement}
 use Rattle.reader.proofs.record_of.Tie as tie
 
-in-bytes-requires : tie.Need-in-bytes-requires
-in-bytes-requires c κs = search needs
-
-behind-requires : tie.Need-behind-requires
-behind-requires c κs = search needs
-
-addresses-of-requires : tie.Need-addresses-of-requires
-addresses-of-requires c κs = search needs
-
-slice-aggregate-record-from : tie.Need-slice-aggregate-record-from
-slice-aggregate-record-from c = search needs
-
-slice-aggregate-record-from-2 : tie.Need-slice-aggregate-record-from-2
-slice-aggregate-record-from-2 c = search needs
-
-record-from-requires : tie.Need-record-from-requires
-record-from-requires c κs = search needs
-
 returns : tie.Need-returns
 returns c =
     let told = c .before .before .before in
@@ -48,11 +30,11 @@ pub record-of-spec : {M : Type 1} → statement M
 record-of-spec =
     tie.close
     (tie.spec
-    in-bytes-requires
-    behind-requires
-    addresses-of-requires
-    slice-aggregate-record-from
-    slice-aggregate-record-from-2
-    record-from-requires
+    (λ c κs. search needs)
+    (λ c κs. search needs)
+    (λ c κs. search needs)
+    (λ c. search needs)
+    (λ c. search needs)
+    (λ c κs. search needs)
     returns
     returns-2)

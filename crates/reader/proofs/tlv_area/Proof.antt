@@ -8,15 +8,6 @@ use borrow.Author.Needs.{needs}
 use Rattle.reader.proofs.tlv_area.Statement.{statement}
 use Rattle.reader.proofs.tlv_area.Tie as tie
 
-area-span-requires : tie.Need-area-span-requires
-area-span-requires c κs = search needs
-
-sub-result : tie.Need-sub-result
-sub-result c = search needs
-
-part-result-start : tie.Need-part-result-start
-part-result-start c = search needs
-
 part-result-end : tie.Need-part-result-end
 part-result-end c =
     let inside = area-inside (c .before .before .before .args .reading .verdict) (c .before .before .before .args .reading .record .kind) (length (c .before .before .before .args .s .now)) in
@@ -34,4 +25,10 @@ returns c =
 
 pub tlv-area-spec : {M : Type 1} → statement M
 tlv-area-spec =
-    tie.close (tie.spec area-span-requires sub-result part-result-start part-result-end returns)
+    tie.close
+    (tie.spec
+    (λ c κs. search needs)
+    (λ c. search needs)
+    (λ c. search needs)
+    part-result-end
+    returns)

@@ -4,15 +4,6 @@ use borrow.Author.Needs.{needs}
 use Rattle.store.proofs.has_mark.Statement.{statement}
 use Rattle.store.proofs.has_mark.Tie as tie
 
-shared-slice-read-if1 : tie.Need-shared-slice-read-if1
-shared-slice-read-if1 c = search needs
-
-shared-slice-read-if2 : tie.Need-shared-slice-read-if2
-shared-slice-read-if2 c = search needs
-
-shared-slice-read-result : tie.Need-shared-slice-read-result
-shared-slice-read-result c = search needs
-
 returns : tie.Need-returns
 returns c = rw (eq-eqb _ 0x43 (c .before .before .before .if1 .taken), eq-eqb _ 0x53 (c .before .if2 .taken))
 
@@ -26,9 +17,9 @@ pub has-mark-spec : {M : Type 1} → statement M
 has-mark-spec =
     tie.close
     (tie.spec
-    shared-slice-read-if1
-    shared-slice-read-if2
-    shared-slice-read-result
+    (λ c. search needs)
+    (λ c. search needs)
+    (λ c. search needs)
     returns
     returns-2
     returns-3)

@@ -4,12 +4,6 @@ use borrow.Author.Needs.{needs}
 use Rattle.store.proofs.has_version.Statement.{statement}
 use Rattle.store.proofs.has_version.Tie as tie
 
-shared-slice-read-if1 : tie.Need-shared-slice-read-if1
-shared-slice-read-if1 c = search needs
-
-shared-slice-read-result : tie.Need-shared-slice-read-result
-shared-slice-read-result c = search needs
-
 returns : tie.Need-returns
 returns c = rw (eq-eqb _ 0x00 (c .before .if1 .taken))
 
@@ -18,4 +12,9 @@ returns-2 c = rw (ne-eqb _ 0x00 (c .if1 .left))
 
 pub has-version-spec : {M : Type 1} → statement M
 has-version-spec =
-    tie.close (tie.spec shared-slice-read-if1 shared-slice-read-result returns returns-2)
+    tie.close
+    (tie.spec
+    (λ c. search needs)
+    (λ c. search needs)
+    returns
+    returns-2)

@@ -11,8 +11,8 @@ use Rattle.record.specs.Kinds.{blockLength}
 use Rattle.record.specs.Records.{Sized}
 use Rattle.record.specs.AddressBlock.{addressBlock}
 use Rattle.record.specs.AddressBlockLaws.{block-size}
-use Rattle.record.specs.Placed.{placed}
-use Rattle.record.specs.PlacedLaws.{placed-then, placed-start}
+use Rattle.lent.specs.Placed.{placed}
+use Rattle.lent.specs.PlacedLaws.{placed-then, placed-start}
 use Rattle.record.proofs.InMemory.{in-memory}
 use Rattle.answer.specs.declared.Written.{Written}
 use Rattle.answer.specs.Answers.{WriteAnswer, toldWritten, outputAfter}

@@ -1,7 +1,7 @@
 -- The reading answers the verdict, `tell` tells its numbers, and the two buffers are written where both have room.
 use native.Mathlib.Omega.{arith}
 use denote.Ref.{now}
-use Rattle.header.specs.Exactness.{verdict}
+use Rattle.fields.specs.Exactness.{verdict}
 use Rattle.dawnhawse.proofs.ReadLaws.{few-numbers, short-connection, untouched, written}
 use borrow.Author.Needs.{needs}
 use Rattle.dawnhawse.proofs.read.dawnhawse_read.Statement.{statement}

@@ -1,17 +1,19 @@
 -- The two addresses and the two ports, each by its function.
-use denote.Ref.{now}
-use Rattle.interface.proofs.Given.{given}
+use mathlib.Core.Path.{_∙_}
+use Rattle.record.specs.RecordLaws.{same-record}
 use borrow.Author.Needs.{needs}
 use Rattle.interface.proofs.connection.connection_of.Statement.{statement}
 use Rattle.interface.proofs.connection.connection_of.Tie as tie
 
 returns : tie.Need-returns
 returns c =
-    let one = c .before .before .before in
+    let two = c .before in
+    let one = two .before .before .before in
     let to = one .before .before .before in
     let from = to .before in
     let x = from .before .before .args in
-    given (x .kind) (now (x .bytes)) _ _ _ _ (from .address-at .ensures) (to .address-at2 .ensures) (one .port .ensures) (c .port2 .ensures)
+    c .record-with .ensures
+    ∙ same-record (x .kind) (from .address-at .ensures) (to .address-at2 .ensures) (one .port .ensures) (two .port2 .ensures)
 
 pub connection-of-spec : {M : Type 1} → statement M
 connection-of-spec =
@@ -24,5 +26,6 @@ connection-of-spec =
     (λ c κs. search needs)
     (λ c. search needs)
     (λ c. search needs)
+    (λ c κs. search needs)
     (λ c κs. search needs)
     returns)

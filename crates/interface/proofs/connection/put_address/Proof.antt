@@ -3,7 +3,7 @@ use mathlib.Core.Path.{ap, _∙_}
 use mathlib.Core.List.{List}
 use Prim.Native.Nat.{ℕ}
 use denote.Ref.{now}
-use Rattle.record.specs.Placed.{placed}
+use Rattle.lent.specs.Placed.{placed}
 use Rattle.record.specs.HeldLaws.{held-placed}
 use borrow.Author.Needs.{needs}
 use Rattle.interface.proofs.connection.put_address.Statement.{statement}

@@ -6,7 +6,7 @@ use denote.Ref.{now}
 use Rattle.exact.specs.Network.{network}
 use Rattle.record.specs.Records.{held}
 use Rattle.record.specs.HeldLaws.{held-length}
-use Rattle.record.specs.Placed.{placed}
+use Rattle.lent.specs.Placed.{placed}
 use Rattle.store.specs.Stored.{codeOf}
 use Rattle.interface.proofs.Parts.{five-parts}
 use borrow.Author.Needs.{needs}

@@ -13,21 +13,6 @@ use borrow.Author.Needs.{needs}
 use Rattle.record.proofs.input.addresses_of.Statement.{statement}
 use Rattle.record.proofs.input.addresses_of.Tie as tie
 
-address-length-requires : tie.Need-address-length-requires
-address-length-requires c κs = search needs
-
-behind-requires : tie.Need-behind-requires
-behind-requires c κs = search needs
-
-source-port-of-requires : tie.Need-source-port-of-requires
-source-port-of-requires c κs = search needs
-
-destination-port-of-requires : tie.Need-destination-port-of-requires
-destination-port-of-requires c κs = search needs
-
-record-from-requires : tie.Need-record-from-requires
-record-from-requires c κs = search needs
-
 made : (k : Kind) (b d : List ℕ) (p q : ℕ) (r : Record) → d ≡ drop (addressLength k) b → p ≡ blockRecord k b .«source_port» → q ≡ blockRecord k b .«destination_port»
     → r ≡ recordOf k (take (addressLength k) b) (take (addressLength k) d) p q → r ≡ blockRecord k b
 made k b d p q r ed ep eq e = e ∙ rw (ed, ep, eq)
@@ -47,9 +32,9 @@ pub addresses-of-spec : {M : Type 1} → statement M
 addresses-of-spec =
     tie.close
     (tie.spec
-    address-length-requires
-    behind-requires
-    source-port-of-requires
-    destination-port-of-requires
-    record-from-requires
+    (λ c κs. search needs)
+    (λ c κs. search needs)
+    (λ c κs. search needs)
+    (λ c κs. search needs)
+    (λ c κs. search needs)
     returns)

@@ -9,17 +9,11 @@ use borrow.Author.Needs.{needs}
 use Rattle.record.proofs.input.destination_port_of.Statement.{statement}
 use Rattle.record.proofs.input.destination_port_of.Tie as tie
 
-address-length-requires : tie.Need-address-length-requires
-address-length-requires c κs = search needs
-
 used : (c : tie.After-address-length) → c .address-length .result ≤ 108
 used c = rw (c .address-length .ensures) (address-fits (c .before .before .args .kind))
 
 add-port-at : tie.Need-add-port-at
 add-port-at c = let h = used c in omega arith
-
-port-length-requires : tie.Need-port-length-requires
-port-length-requires c κs = search needs
 
 short : (c : tie.After-port-length) → c .port-length .result ≤ 2
 short c = rw (c .port-length .ensures) (port-fits (c .before .before .before .args .kind))
@@ -41,9 +35,9 @@ pub destination-port-of-spec : {M : Type 1} → statement M
 destination-port-of-spec =
     tie.close
     (tie.spec
-    address-length-requires
+    (λ c κs. search needs)
     add-port-at
-    port-length-requires
+    (λ c κs. search needs)
     add-port-at-2
     port-at-requires
     returns)

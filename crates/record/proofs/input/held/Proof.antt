@@ -7,7 +7,7 @@ use lib.ListN.{length}
 use lib.Seq.{paste, paste-zero}
 use Rattle.record.specs.Records.{held}
 use Rattle.record.specs.HeldLaws.{blank, held-pasted, pasted-next}
-use Rattle.record.specs.PartLaws.{take-least}
+use Rattle.lent.specs.PartLaws.{take-least}
 use Rattle.record.proofs.input.held.Statement.{statement}
 use Rattle.record.proofs.input.held.Tie as tie
 

@@ -9,9 +9,6 @@ use borrow.Author.Needs.{needs}
 use Rattle.record.proofs.input.source_port_of.Statement.{statement}
 use Rattle.record.proofs.input.source_port_of.Tie as tie
 
-address-length-requires : tie.Need-address-length-requires
-address-length-requires c κs = search needs
-
 used : (c : tie.After-address-length) → c .address-length .result ≤ 108
 used c = rw (c .address-length .ensures) (address-fits (c .before .before .args .kind))
 
@@ -29,4 +26,9 @@ returns c =
 
 pub source-port-of-spec : {M : Type 1} → statement M
 source-port-of-spec =
-    tie.close (tie.spec address-length-requires add-port-at port-at-requires returns)
+    tie.close
+    (tie.spec
+    (λ c κs. search needs)
+    add-port-at
+    port-at-requires
+    returns)

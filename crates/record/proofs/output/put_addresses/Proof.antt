@@ -15,22 +15,10 @@ use Rattle.record.proofs.InMemory.{in-memory}
 use Rattle.record.specs.Kinds.{addressLength, portLength, blockLength}
 use Rattle.record.specs.AddressBlock.{addressBlock}
 use Rattle.record.specs.AddressBlockLaws.{address-fits, address-size, port-size, block-size}
-use Rattle.record.specs.Placed.{placed}
-use Rattle.record.specs.PlacedLaws.{placed-else, placed-then}
+use Rattle.lent.specs.Placed.{placed}
+use Rattle.lent.specs.PlacedLaws.{placed-else, placed-then}
 use Rattle.record.proofs.output.put_addresses.Statement.{statement}
 use Rattle.record.proofs.output.put_addresses.Tie as tie
-
-address-length-requires : tie.Need-address-length-requires
-address-length-requires c κs = search needs
-
-port-length-requires : tie.Need-port-length-requires
-port-length-requires c κs = search needs
-
-block-length-requires : tie.Need-block-length-requires
-block-length-requires c κs = search needs
-
-sub-if2 : tie.Need-sub-if2
-sub-if2 c = search needs
 
 -- the lengths of what is put
 module _ (c : tie.After-address-length) where
@@ -53,9 +41,6 @@ array-share-prefix-source c =
 slice-aggregate-put : tie.Need-slice-aggregate-put
 slice-aggregate-put c = sym (length-take-le _ _ (array-share-prefix-source (c .before)))
 
-put-requires : tie.Need-put-requires
-put-requires c κs = search needs
-
 array-share-prefix-destination : tie.Need-array-share-prefix-destination
 array-share-prefix-destination c =
     let d = c .before .before .before .before .before .before .before .before .before in
@@ -65,36 +50,6 @@ array-share-prefix-destination c =
 
 slice-aggregate-put-2 : tie.Need-slice-aggregate-put-2
 slice-aggregate-put-2 c = sym (length-take-le _ _ (array-share-prefix-destination (c .before)))
-
-add-put : tie.Need-add-put
-add-put c = search needs
-
-put-requires-2 : tie.Need-put-requires-2
-put-requires-2 c κs = search needs
-
-add-put-port : tie.Need-add-put-port
-add-put-port c = search needs
-
-add-put-port-2 : tie.Need-add-put-port-2
-add-put-port-2 c = search needs
-
-put-port-requires : tie.Need-put-port-requires
-put-port-requires c κs = search needs
-
-add-put-port-3 : tie.Need-add-put-port-3
-add-put-port-3 c = search needs
-
-add-put-port-4 : tie.Need-add-put-port-4
-add-put-port-4 c = search needs
-
-add-put-port-5 : tie.Need-add-put-port-5
-add-put-port-5 c = search needs
-
-put-port-requires-2 : tie.Need-put-port-requires-2
-put-port-requires-2 c κs = search needs
-
-same-length : tie.Need-same-length
-same-length c = search needs
 
 module _ (r : Record) (sized : Sized r) (at n m : ℕ) (address : n ≡ addressLength (r .kind)) (port : m ≡ portLength (r .kind)) where
   abbrev k : Kind
@@ -157,25 +112,25 @@ pub put-addresses-spec : {M : Type 1} → statement M
 put-addresses-spec =
     tie.close
     (tie.spec
-    address-length-requires
-    port-length-requires
-    block-length-requires
-    sub-if2
+    (λ c κs. search needs)
+    (λ c κs. search needs)
+    (λ c κs. search needs)
+    (λ c. search needs)
     array-share-prefix-source
     slice-aggregate-put
-    put-requires
+    (λ c κs. search needs)
     array-share-prefix-destination
     slice-aggregate-put-2
-    add-put
-    put-requires-2
-    add-put-port
-    add-put-port-2
-    put-port-requires
-    add-put-port-3
-    add-put-port-4
-    add-put-port-5
-    put-port-requires-2
-    same-length
+    (λ c. search needs)
+    (λ c κs. search needs)
+    (λ c. search needs)
+    (λ c. search needs)
+    (λ c κs. search needs)
+    (λ c. search needs)
+    (λ c. search needs)
+    (λ c. search needs)
+    (λ c κs. search needs)
+    (λ c. search needs)
     returns
     returns-2
     returns-3)

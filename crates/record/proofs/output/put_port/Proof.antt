@@ -7,30 +7,15 @@ use lib.ListN.{take}
 use lib.Seq.{length-take-le}
 use Rattle.exact.specs.Network.{network}
 use Rattle.record.specs.AddressBlockLaws.{port-fits}
-use Rattle.record.specs.Placed.{placed}
+use Rattle.lent.specs.Placed.{placed}
 use Rattle.record.proofs.output.put_port.Statement.{statement}
 use Rattle.record.proofs.output.put_port.Tie as tie
-
-cast-t8 : tie.Need-cast-t8
-cast-t8 c = search needs
-
-cast-t10 : tie.Need-cast-t10
-cast-t10 c = search needs
-
-port-length-requires : tie.Need-port-length-requires
-port-length-requires c κs = search needs
 
 array-share-prefix-bytes : tie.Need-array-share-prefix-bytes
 array-share-prefix-bytes c = rw (c .port-length .ensures) (port-fits (c .before .before .args .kind))
 
 slice-aggregate-put : tie.Need-slice-aggregate-put
 slice-aggregate-put c = sym (length-take-le _ _ (array-share-prefix-bytes (c .before)))
-
-put-requires : tie.Need-put-requires
-put-requires c κs = search needs
-
-same-length : tie.Need-same-length
-same-length c = search needs
 
 returns : tie.Need-returns
 returns c =
@@ -43,11 +28,11 @@ pub put-port-spec : {M : Type 1} → statement M
 put-port-spec =
     tie.close
     (tie.spec
-    cast-t8
-    cast-t10
-    port-length-requires
+    (λ c. search needs)
+    (λ c. search needs)
+    (λ c κs. search needs)
     array-share-prefix-bytes
     slice-aggregate-put
-    put-requires
-    same-length
+    (λ c κs. search needs)
+    (λ c. search needs)
     returns)

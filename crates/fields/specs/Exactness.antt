@@ -1,0 +1,137 @@
+-- Demand 3, whole, about the definitions: the verdict on a header's bytes is the one that the claim allows, and no other is.
+use mathlib.Core.Path.{_≡_, refl, sym, ap, _∙_}
+use mathlib.Core.Bool.{Bool, true, false}
+use mathlib.Core.List.{List, [], _++_, append-nil}
+use mathlib.Core.Logic.{_⊎_, inl, inr, ⊎-elim, _↔_}
+use Prim.Native.Nat.{ℕ}
+use native.Mathlib.Omega.{arith}
+use lib.Dec.{eqb}
+use Rattle.exact.specs.Claim.{Verdict, accepted, more, refused, AllBytes, Heads, Live}
+use Rattle.exact.specs.Ended.{Ended}
+use Rattle.exact.specs.Field.{Opens}
+use Rattle.exact.specs.Machine.{leaf}
+use Rattle.exact.specs.Parser.{Parser, Starts, just, _then_, either, recast, starts-seq}
+use Rattle.exact.specs.Literal.{starts-text}
+use Rattle.exact.specs.Numbered.{Numbered, numbered-either}
+use Rattle.exact.specs.Theorem.{claim-holds, claim-only, claim-stays, whole-only, bytes-suffice}
+use Rattle.text.specs.Ip4.{Address as Ip4Address}
+use Rattle.text.specs.Ip4Leaf.{ip4}
+use Rattle.ip6.specs.Parser.{ip6, space-ends}
+use Rattle.header.specs.Line.{Ip6Address, groupBytes, Line}
+use Rattle.header.specs.Header.{Header, Whole, number}
+use Rattle.header.specs.Demand.{Judges}
+use Rattle.fields.specs.LineFields.{line, line-same, Lined}
+use Rattle.fields.specs.BlockFields.{block, block-same}
+use Rattle.fields.specs.Places.{AddressField, ip4-clear, ip6-clear, numbered-ended, numbered-line, numbered-block}
+
+-- ── the address fields ──
+abbrev pub address4 : Parser (List ℕ)
+address4 = ip4 3 32 (λ d. let h = d .0 in omega arith) (omega arith)
+
+abbrev pub groups : Parser (List ℕ)
+groups = ip6 3 32 space-ends
+
+pub to-address : (f a : List ℕ) → (groups then λ gs. just (groupBytes gs)) .field .lang f a → Ended Ip6Address 32 f a
+to-address f a l =
+    let w = l .first in
+    record {
+      text = w .text;
+      split = l .split ∙ ap (λ (t : List ℕ). l .front ++ t) (l .second .0) ∙ append-nil (l .front) ∙ w .split;
+      whole = record { groups = l .mid; text = w .whole; value = l .second .1 };
+    }
+
+pub from-address : (f a : List ℕ) → Ended Ip6Address 32 f a → (groups then λ gs. just (groupBytes gs)) .field .lang f a
+from-address f a w =
+    record {
+      front = f;
+      back = [];
+      mid = w .whole .groups;
+      split = sym (append-nil f);
+      first = record { text = w .text; split = w .split; whole = w .whole .text };
+      second = (refl, w .whole .value);
+    }
+
+pub address-part : (u : List ℕ) (k : ℕ) → Opens ((groups then λ gs. just (groupBytes gs)) .field) u
+    → (groups then λ gs. just (groupBytes gs)) .field .at u k → k ≡ 3
+address-part u k o (inl x) = x .1
+address-part u k o (inr x) = absurd (x .part)
+
+abbrev pub address6 : Parser (List ℕ)
+address6 =
+    recast (groups then λ gs. just (groupBytes gs)) (leaf 3 (Ended Ip6Address 32)) (λ f a. (to-address f a, from-address f a))
+    address-part
+
+field4 : AddressField Ip4Address address4
+field4 =
+    record {
+      same = λ f a. (λ l. l, λ l. l);
+      numbered = λ before n w e. numbered-ended Ip4Address 32 ip4-clear refl 3 before n w e;
+      clear = ip4-clear;
+    }
+
+field6 : AddressField Ip6Address address6
+field6 =
+    record {
+      same = λ f a. (λ l. l, λ l. l);
+      numbered = λ before n w e. numbered-ended Ip6Address 32 ip6-clear refl 3 before n w e;
+      clear = ip6-clear;
+    }
+
+-- ── the header ──
+abbrev pub isP : ℕ → Bool
+isP c = eqb c 80
+
+abbrev pub lineField : Parser Header
+lineField = line address4 address6
+
+pub line-starts : Starts isP true (lineField .field)
+line-starts = starts-seq isP true _ _ (starts-text {A = ℕ} isP 1 0 80 _)
+
+pub block-starts : Starts isP false (block .field)
+block-starts = starts-seq isP false _ _ (starts-text {A = ℕ} isP 1 0 0x0D _)
+
+abbrev pub header : Parser Header
+header = either isP lineField block line-starts block-starts
+
+-- its members are the whole headers
+same-line : (f : List ℕ) (h : Header) → lineField .field .lang f h ↔ Lined Line f h
+same-line f h = line-same Ip4Address Ip6Address address4 address6 (field4 .same) (field6 .same) f h
+
+members : (f : List ℕ) (h : Header) → header .field .lang f h ↔ Whole f h
+members f h = (
+  ⊎-elim (λ l. inl (same-line f h .0 l)) (λ l. inr (block-same f h .0 l)),
+  ⊎-elim (λ l. inl (same-line f h .1 l)) (λ l. inr (block-same f h .1 l)),
+)
+
+whole-bytes : (f : List ℕ) (h : Header) → Whole f h → AllBytes f
+whole-bytes f h w = header .bytes f h (members f h .1 w)
+
+-- and it numbers its places as document 01's table does
+numbered : Numbered number (header .field) []
+numbered =
+    numbered-either number isP lineField block line-starts block-starts []
+    (numbered-line Ip4Address Ip6Address address4 address6 field4 field6) numbered-block
+
+-- the verdict on the bytes so far, as a function
+abbrev pub verdict : List ℕ → Verdict Header
+verdict s = header .verdict s
+
+-- its every answer is one that demand 3 allows
+pub judges : (s : List ℕ) → Judges (verdict s) s
+judges = claim-holds Whole number whole-bytes header members numbered
+
+-- demand 3 allows no other
+pub judges-only : (v : Verdict Header) (s : List ℕ) → Judges v s → v ≡ verdict s
+judges-only = claim-only Whole number whole-bytes header members numbered
+
+-- "Bytes added behind accepted or refused ones change nothing"
+pub judges-stays : (v : Verdict Header) (s t : List ℕ) → (v ≡ more → ⊥) → Judges v s → Judges v (s ++ t)
+judges-stays = claim-stays Whole number whole-bytes header members numbered
+
+-- a whole header says one thing, and begins no other
+pub one-header : (f g x y : List ℕ) (a b : Header) → f ++ x ≡ g ++ y → Whole f a → Whole g b → (g ≡ f) × (b ≡ a)
+one-header = whole-only Whole number whole-bytes header members numbered
+
+-- no continuation needs a number of 256 or more
+pub bytes-enough : (s t : List ℕ) (n : ℕ) (h : Header) → Heads Whole n h (s ++ t) → Live Whole s
+bytes-enough = bytes-suffice Whole number whole-bytes

@@ -1,0 +1,231 @@
+-- What document 01 says of whole headers, proved of their definitions: how long they are, where bytes are refused, and which TLV area and record
+-- a header has. Its rules for the two length bytes of a TLV are in crate `tlv`, Rules.
+use mathlib.Core.Path.{_≡_, refl, sym, ap, _∙_, subst}
+use mathlib.Core.List.{List, [], _∷_, _++_}
+use mathlib.Core.Logic.{_⊎_, inl, inr, ⊎-elim}
+use mathlib.Core.Option.{some}
+use Prim.Native.Nat.{ℕ, suc, _+_, _*_, _≤_, _<_}
+use native.Mathlib.Nat.{lt-of-not-le}
+use native.Mathlib.Numerals.{add-one}
+use native.Mathlib.Omega.{arith}
+use lib.ListN.{length, getD, take, drop, replicate, length-append}
+use lib.Seq.{split-at, length-take-le, take-suc, drop-at}
+use Rattle.exact.specs.Ascii.{ascii}
+use Rattle.exact.specs.Network.{network}
+use Rattle.exact.specs.Claim.{accepted, more, refused, AllBytes}
+use Rattle.exact.specs.Parser.{bytes-back}
+use Rattle.exact.specs.Byte.{zeros}
+use Rattle.text.specs.Line.{CR, NoEnd}
+use Rattle.text.specs.Ip4.{Address as Ip4Address}
+use Rattle.text.specs.Ip4Leaf.{ip4Verdict}
+use Rattle.text.specs.Laws.{decimal-length, address-length}
+use Rattle.ip6.specs.Address.{hexOf}
+use Rattle.ip6.specs.Bounds.{address-bounds}
+use Rattle.tlv.specs.Room.{filled-fillable}
+use Rattle.record.specs.declared.Transport.the-variants.{Stream}
+use Rattle.record.specs.declared.Kind.{Kind}
+use Rattle.record.specs.declared.Kind.the-variants.{Local, Unspecified, Ip4, Ip6}
+use Rattle.record.specs.declared.Record.{Record}
+use Rattle.record.specs.Kinds.{family, blockLength}
+use Rattle.record.specs.Records.{recordOf, bare, Clean}
+use Rattle.header.specs.Line.{TcpLine, Ip6Address, UnknownLine}
+use Rattle.header.specs.Block.{signature, LOCAL, PROXY, HasAddresses, AddressBlock, Block}
+use Rattle.header.specs.Header.{Header, Whole}
+use Rattle.header.specs.Demand.{Judges}
+use Rattle.fields.specs.BlockFields.{addresses-length}
+use Rattle.fields.specs.Exactness.{verdict, judges-stays}
+use Rattle.fields.specs.FactsForProofs.{by-verdict, framed-length, block-bounds, header-least, kept, tcp-kept, group-bytes, unknown-verdict, rest-more, rest-refused, number-eight, high-lives, length-verdict}
+
+-- ── the text line ──
+-- "The whole line has at most 107 bytes"
+pub longest-unknown : (f : List ℕ) (r : Record) → UnknownLine f r → length f ≤ 107
+longest-unknown f r l =
+    ⊎-elim (λ e. rw e (omega arith)) (λ w. let h = w .end .size in rw (w .split) (omega arith)) (l .0)
+
+-- what an UNKNOWN line says
+abbrev pub unknownHeader : Header
+unknownHeader = record { connection = bare Unspecified; version = 1; area = [] }
+
+-- it is reached
+pub unknown-reached : Judges (accepted unknownHeader 107) (ascii "PROXY UNKNOWN " ++ replicate 91 0 ++ ascii "\r\n")
+unknown-reached = by-verdict _ (ascii "PROXY UNKNOWN " ++ replicate 91 0 ++ ascii "\r\n") refl
+
+-- 106 bytes of an UNKNOWN line without an end: "PROXY UNKNOWN " and 92 bytes, with no CR followed by LF among them
+module _ (s body : List ℕ) (split : s ≡ ascii "PROXY UNKNOWN " ++ body) (bytes : AllBytes body) (none : NoEnd body) (size : length s ≡ 106) where
+  body-size : length body ≡ 92
+  body-size = let h = ap length split in omega arith
+
+  same-last : getD s 105 0 ≡ getD body 91 0
+  same-last = rw split
+
+  -- "So 106 bytes without an end are still "more" if the last is CR"
+  pub unknown-more : getD s 105 0 ≡ CR → Judges more s
+  unknown-more e =
+      by-verdict more s (ap verdict split ∙ unknown-verdict body more (rest-more body bytes none body-size (sym same-last ∙ e)))
+
+  -- "and otherwise refused with 5 at place 105", whatever follows
+  pub unknown-refused : (getD s 105 0 ≡ CR → ⊥) → (t : List ℕ) → Judges (refused 5 105) (s ++ t)
+  unknown-refused other t =
+      judges-stays (refused 5 105) s t (λ e. let z : _≡_ {A = ℕ} 0 1 = cc in omega arith)
+      (by-verdict (refused 5 105) s
+      (ap verdict split ∙ unknown-verdict body (refused 5 91) (rest-refused body bytes none body-size (λ e. other (same-last ∙ e)))))
+
+-- "PROXY ", a word, and a space each before an address of at most n bytes, another, a port of at most 5, and another, then CR LF
+tcp-longest : (word : List ℕ) (kind : Kind) (Address : List ℕ → List ℕ → Type 0) (n : ℕ) → ((t a : List ℕ) → Address t a → length t ≤ n)
+    → (f : List ℕ) (r : Record) → TcpLine word kind Address f r → length f ≤ 6 + length word + 1 + n + 1 + n + 1 + 5 + 1 + 5 + 2
+tcp-longest word kind Address n short f r l =
+    let a = short (l .source) (l .from) (l .whole-source) in
+    let b = short (l .destination) (l .to) (l .whole-destination) in
+    let p = decimal-length 65535 (l .source-port) (l .p) 5 (l .whole-source-port) (omega arith) (omega arith) in
+    let q = decimal-length 65535 (l .destination-port) (l .q) 5 (l .whole-destination-port) (omega arith) (omega arith) in
+    rw (l .split) (simp length-append (omega arith))
+
+-- "Longest TCP4 line 56 bytes": 6 + 4 + 1 + 15 + 1 + 15 + 1 + 5 + 1 + 5 + 2 = 56
+pub longest-tcp4 : (f : List ℕ) (r : Record) → TcpLine (ascii "TCP4") (Ip4 Stream) Ip4Address f r → length f ≤ 56
+longest-tcp4 = tcp-longest (ascii "TCP4") (Ip4 Stream) Ip4Address 15 address-length
+
+-- "TCP6 104": 6 + 4 + 1 + 39 + 1 + 39 + 1 + 5 + 1 + 5 + 2 = 104
+pub longest-tcp6 : (f : List ℕ) (r : Record) → TcpLine (ascii "TCP6") (Ip6 Stream) Ip6Address f r → length f ≤ 104
+longest-tcp6 = tcp-longest (ascii "TCP6") (Ip6 Stream) Ip6Address 39 (λ t a l. address-bounds t (l .groups) (l .text) .short)
+
+-- both are reached, by the highest addresses and ports
+abbrev pub highest : Kind → ℕ → Header
+highest kind n =
+    record { connection = recordOf kind (replicate n 255) (replicate n 255) 65535 65535; version = 1; area = [] }
+
+abbrev pub highest4 : List ℕ
+highest4 = ascii "PROXY TCP4 255.255.255.255 255.255.255.255 65535 65535\r\n"
+
+abbrev pub highest6 : List ℕ
+highest6 =
+    ascii "PROXY TCP6 ffff:ffff:ffff:ffff:ffff:ffff:ffff:ffff ffff:ffff:ffff:ffff:ffff:ffff:ffff:ffff 65535 65535\r\n"
+
+pub tcp4-reached : Judges (accepted (highest (Ip4 Stream) 4) 56) highest4
+unfolding ip4Verdict
+tcp4-reached = by-verdict _ highest4 refl
+
+pub tcp6-reached : Judges (accepted (highest (Ip6 Stream) 16) 104) highest6
+unfolding hexOf
+tcp6-reached = by-verdict _ highest6 refl
+
+-- ── the binary block ──
+-- "Bytes 14 and 15: length L, high byte first"
+abbrev pub lengthField : List ℕ → ℕ
+lengthField f = getD f 14 0 * 256 + getD f 15 0
+
+-- "the header has 16 + L bytes"
+pub block-length : (f : List ℕ) (r : Record) (area : List ℕ) → Block f r area → length f ≡ 16 + lengthField f
+block-length f r area w = block-bounds f r area w .0
+
+-- "For the six address kinds L must be A, or at least A + 3"
+pub length-rule : (f : List ℕ) (r : Record) (area : List ℕ) → AddressBlock f r area
+    → (lengthField f ≡ blockLength (r .kind)) ⊎ (blockLength (r .kind) + 3 ≤ lengthField f)
+length-rule f r area w =
+    let kind : r .kind ≡ w .kind = ap (λ (x : Record). x .kind) (w .addresses .says) in
+    let a = addresses-length (w .kind) (w .block) r (w .addresses) in
+    let l = framed-length _ _ _ f (w .framed) .0 in
+    let sum = length-append (w .block) area in
+    rw kind (⊎-elim (λ e. inl (omega arith)) (λ e. inr (omega arith)) (filled-fillable (length area) area (refl, w .tlvs)))
+
+-- "else 8 at place 15", whatever follows
+pub length-refused : (k : Kind) (b h l : ℕ) (t : List ℕ) → b < 256 → h < 256 → l < 256 → family b ≡ some k → HasAddresses k
+    → (h * 256 + l ≡ blockLength k → ⊥) → h * 256 + l < blockLength k + 3 → Judges (refused 8 15) (signature ++ PROXY ∷ b ∷ h ∷ l ∷ t)
+length-refused k b h l t small high low table has other few =
+    by-verdict (refused 8 15) (signature ++ PROXY ∷ b ∷ h ∷ l ∷ t) (length-verdict k b h l t small high low other few table has)
+
+-- and 8 is given at no other place
+pub eight-at-fifteen : (s : List ℕ) (p : ℕ) → AllBytes s → Judges (refused 8 p) s → p ≡ 15
+eight-at-fifteen s p bytes x =
+    let inside = x .0 in
+    let n = number-eight (take p s) (x .3) in
+    let size = length-take-le p s (omega arith) in
+    let byte = bytes-back (take p s) (getD s p 0 ∷ drop (suc p) s) (subst AllBytes (split-at s p 0 inside) bytes) .0 in
+    let next : take (p + 1) s ≡ take p s ++ getD s p 0 ∷ [] = rw (add-one, take-suc s p 0 inside) in
+    let over : 14 < p =
+    lt-of-not-le (λ (h : p ≤ 14). x .2 (rw next (high-lives (take p s) (getD s p 0) (omega arith) (n .0) byte (x .1))))
+    in
+    omega arith
+
+-- ── both versions ──
+-- "The header length is at least 15 and at most 65,551"
+pub header-length : (f : List ℕ) (h : Header) → Whole f h → (15 ≤ length f) × (length f ≤ 65551)
+header-length f h w = (header-least f h w, most w)
+  where
+    most : Whole f h → length f ≤ 65551
+    most (inl (inl l, v, a)) = let b = longest-unknown f (h .connection) l in omega arith
+    most (inl (inr (inl l), v, a)) = let b = longest-tcp4 f (h .connection) l in omega arith
+    most (inl (inr (inr l), v, a)) = let b = longest-tcp6 f (h .connection) l in omega arith
+    most (inr w) = block-bounds f (h .connection) (h .area) (w .0) .1
+
+-- both are reached: by the shortest UNKNOWN line, and by LOCAL with 65,535 zero bytes
+pub least-reached : Whole (ascii "PROXY UNKNOWN\r\n") unknownHeader × (length (ascii "PROXY UNKNOWN\r\n") ≡ 15)
+least-reached = (inl (inl (inl refl, refl), refl, refl), refl)
+
+abbrev pub localZeros : ℕ → List ℕ
+localZeros n = signature ++ LOCAL ∷ 0 ∷ network n ++ replicate n 0
+
+abbrev pub localHeader : Header
+localHeader = record { connection = bare Local; version = 2; area = [] }
+
+pub local-whole : (n : ℕ) → n < 65536 → Whole (localZeros n) localHeader × (length (localZeros n) ≡ 16 + n)
+local-whole n small =
+    let z = zeros n in
+    let size = z .size in (
+      inr (
+        inl (
+          record {
+            byte13 = 0;
+            block = replicate n 0;
+            framed = record { split = rw size; small = omega arith };
+            byte = omega arith;
+            bytes = z .bytes;
+          },
+          refl,
+          refl,
+        ),
+        refl,
+      ),
+      omega arith,
+    )
+
+pub most-reached : Whole (localZeros 65535) localHeader × (length (localZeros 65535) ≡ 65551)
+most-reached = local-whole 65535 (omega arith)
+
+kind-of : (r x : Record) → r ≡ x → HasAddresses (r .kind) → HasAddresses (x .kind)
+kind-of r x e = subst (λ (y : Record). HasAddresses (y .kind)) e
+
+-- "the TLV area is given too, as the very part of the received bytes from 16 + A to the header's end"
+pub area-part : (f : List ℕ) (h : Header) → Whole f h → h .version ≡ 2 → HasAddresses (h .connection .kind)
+    → h .area ≡ drop (16 + blockLength (h .connection .kind)) f
+area-part f h (inl w) v has = let e = w .1 in absurd (omega arith)
+area-part f h (inr (inl w, x)) v has = absurd (kind-of (h .connection) (bare Local) (w .1) has)
+area-part f h (inr (inr (inl w), x)) v has = absurd (kind-of (h .connection) (bare Unspecified) (w .1) has)
+area-part f h (inr (inr (inr w), x)) v has =
+    let kind : h .connection .kind ≡ w .kind = ap (λ (x : Record). x .kind) (w .addresses .says) in
+    let a = addresses-length (w .kind) (w .block) (h .connection) (w .addresses) in
+    let front = signature ++ PROXY ∷ w .byte13 ∷ network (length (w .block ++ h .area)) ++ w .block in
+    rw (kind, w .framed .split) (sym (drop-at front (h .area) (16 + blockLength (w .kind)) (omega arith)))
+
+-- "it is empty for version 1, local, unspecified"
+pub area-empty : (f : List ℕ) (h : Header) → Whole f h → (h .version ≡ 1) ⊎ (HasAddresses (h .connection .kind) → ⊥) → h .area ≡ []
+area-empty f h (inl w) none = w .2
+area-empty f h (inr (inl w, x)) none = w .2
+area-empty f h (inr (inr (inl w), x)) none = w .2
+area-empty f h (inr (inr (inr w), x)) none =
+    absurd (⊎-elim (λ v. omega arith) (λ no. no (kind-of _ (h .connection) (sym (w .addresses .says)) (w .has))) none)
+
+-- "Addresses of 4, 16 or 108 bytes are held by value. Address bytes and ports that a kind does not use are zero; UNIX has no ports"
+pub record-clean : (f : List ℕ) (h : Header) → Whole f h
+    → Clean (h .connection) × (length (h .connection .source) ≡ 108) × (length (h .connection .destination) ≡ 108)
+record-clean f h (inl (inl l, v, a)) = rw (l .1) (kept Unspecified [] [] 0 0 refl refl refl refl)
+record-clean f h (inl (inr (inl l), v, a)) =
+    tcp-kept (ascii "TCP4") (Ip4 Stream) Ip4Address (λ t a l. rw (l .value)) (λ p e. e) f (h .connection) l
+record-clean f h (inl (inr (inr l), v, a)) =
+    tcp-kept (ascii "TCP6") (Ip6 Stream) Ip6Address
+    (λ t a l. let e = address-bounds t (l .groups) (l .text) .eight in rw (l .value, group-bytes (l .groups)) (omega arith))
+    (λ p e. e) f (h .connection) l
+record-clean f h (inr (inl w, v)) = rw (w .1) (kept Local [] [] 0 0 refl refl refl refl)
+record-clean f h (inr (inr (inl w), v)) = rw (w .1) (kept Unspecified [] [] 0 0 refl refl refl refl)
+record-clean f h (inr (inr (inr w), v)) =
+    let a = w .addresses in
+    rw (a .says) (kept (w .kind) (a .from) (a .to) (a .p) (a .q) (a .from-length) (a .to-length) (a .p-fits) (a .q-fits))

@@ -1,0 +1,23 @@
+-- The table of W01 to W14 is right: each row's verdict is computed.
+use mathlib.Core.Path.{_≡_, refl, subst}
+use mathlib.Core.List.{List, [], _∷_}
+use Rattle.exact.specs.Claim.{Verdict}
+use Rattle.text.specs.Ip4Leaf.{ip4Verdict}
+use Rattle.header.specs.Header.{Header}
+use Rattle.header.specs.Demand.{Judges}
+use Rattle.header.specs.Table.{Row, table, Right}
+use Rattle.fields.specs.Exactness.{verdict, judges}
+
+abbrev Computed : List Row → Type 0
+Computed [] = Unit {0}
+Computed (r ∷ rows) = (verdict (r .bytes) ≡ r .answer) × Computed rows
+
+right : (rows : List Row) → Computed rows → Right rows
+right [] c = tt
+right (r ∷ rows) c = (subst (λ (v : Verdict Header). Judges v (r .bytes)) (c .0) (judges (r .bytes)), right rows (c .1))
+
+pub table-right : Right table
+unfolding ip4Verdict
+table-right =
+    right table
+    (refl, (refl, (refl, (refl, (refl, (refl, (refl, (refl, (refl, (refl, (refl, (refl, (refl, (refl, tt))))))))))))))
