@@ -1,8 +1,9 @@
 -- What is written is what `check` answers. A refusal leaves the output as it was; else the draft's text is put at its front.
 use mathlib.Core.Path.{_≡_, sym, ap, _∙_, subst}
 use mathlib.Core.List.{List, []}
-use Prim.Native.Nat.{ℕ}
-use lib.ListN.{length, take}
+use Prim.Native.Nat.{ℕ, _≤_}
+use native.Mathlib.Omega.{arith}
+use lib.ListN.{length, take, length-take}
 use borrow.Author.Needs.{needs}
 use denote.Ref.{now}
 use Rattle.record.specs.declared.Record.{Record}
@@ -37,6 +38,9 @@ module _ (c : tie.After-line) where
   size : c .line .result .length ≡ length (writtenLine connection)
   size = draft-size (writtenLine connection) is-line
 
+  room : c .line .result .length ≤ length (c .line .result .bytes)
+  room = draft-room (writtenLine connection) is-line
+
   says : take (c .line .result .length) (c .line .result .bytes) ≡ writtenLine connection
   says = draft-says (writtenLine connection) is-line
 
@@ -67,10 +71,13 @@ check-requires : tie.Need-check-requires
 check-requires c κs = size (c .before)
 
 array-share-prefix-bytes : tie.Need-array-share-prefix-bytes
-array-share-prefix-bytes c = let d = drafted (c .before .before) in draft-room (writtenLine (connection d)) (is-line d)
+array-share-prefix-bytes c = let r = room (drafted (c .before .before)) in omega arith
 
 slice-aggregate-put : tie.Need-slice-aggregate-put
-slice-aggregate-put c = let d = drafted (c .before .before .before) in size d ∙ sym (ap length (says d))
+slice-aggregate-put c =
+    let d = drafted (c .before .before .before) in
+    let r = room d in
+    omega (arith, length-take (d .line .result .length) (d .line .result .bytes))
 
 returns : tie.Need-returns
 returns c =

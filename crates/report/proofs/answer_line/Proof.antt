@@ -46,10 +46,10 @@ returns-3 c =
     let verdict = known .before .verdict2 .given in
     let k = known .before .before .before .before .args .reading .«record» .kind in
     let so-far = rw (none .empty3 .ensures) at (word .push-word3 .ensures) in
-    let so-far = rw (so-far, appended-more, none .before .number .ensures) at (number .push-decimal2 .ensures) in
+    let so-far = rw (so-far, appended-more) at (number .push-decimal2 .ensures) in
     let so-far = rw (so-far, appended-more) at (at-word .push-word4 .ensures) in
     let so-far = rw (so-far, appended-more) at (place .push-decimal3 .ensures) in
-    let so-far = rw (so-far, appended-more) at (c .push3 .ensures) in
+    let so-far = rw (so-far, appended-more, none .before .number .ensures) at (c .push3 .ensures) in
     rw (verdict .1)
     (so-far
     ∙ appended-draft [] (lineOf (Refused (verdict .0 .0) (verdict .0 .1 .0)) k) (refused-fits (verdict .0 .0) (verdict .0 .1 .0) k (omega arith)))
