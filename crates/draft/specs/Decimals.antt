@@ -10,7 +10,7 @@ use Rattle.draft.specs.NumeralLaws.{numeral-all, numeral-value, numeral-
 decimal-digit : (d : ℕ) → d < 10 → digit d ≡ 48 + d
 decimal-digit d small = simp (lt-ltb d 10 small)
 
--- over the upper bound
+-- over any upper bound that the number keeps
 pub decimal-text : (bound n : ℕ) → n ≤ bound → Decimal bound (decimalText n) n
 decimal-text bound n h =
     record {

@@ -18,9 +18,11 @@ digitsOf base (suc most) n = pick (ltb n base) (digit n ∷ []) (digitsOf base m
 unfoldable pub numeral : (base n : ℕ) → List ℕ
 numeral base n = digitsOf base (suc n) n
 
+-- "decimals"
 abbrev pub decimalText : ℕ → List ℕ
 decimalText n = numeral 10 n
 
+-- "hex digits"
 abbrev pub hexText : ℕ → List ℕ
 hexText n = numeral 16 n
 

@@ -1,4 +1,4 @@
--- What the written numbers and addresses are, proved of their definitions: decimal, IPv4 and IPv6 text that says what was written (document 01, "The text line").
+-- What the written addresses are, proved of their definitions: IPv4 and IPv6 text that says what was written (document 01, "The text line").
 use mathlib.Core.Path.{_≡_, refl, ap₂, _∙_}
 use mathlib.Core.List.{List, [], _∷_, append-assoc}
 use mathlib.Core.Logic.{inl}

@@ -19,10 +19,10 @@ lineOf (Accepted length version) kind = ascii "accepted " ++ decimalText length 
 lineOf More kind = ascii "more\n"
 lineOf (Refused refusal place) kind = ascii "refused " ++ decimalText (numberOf refusal) ++ ascii " at " ++ decimalText place ++ ascii "\n"
 
+abbrev pub answerLine : Reading → List ℕ
+answerLine r = lineOf (r .verdict) (r .record .kind)
+
 -- "Case W02 gives exactly `accepted 47 ip4-stream`"
 pub w02 : lineOf (Accepted 47 1) (Ip4 Stream) ≡ ascii "accepted 47 ip4-stream\n"
 unfolding numeral
 w02 = refl
-
-abbrev pub answerLine : Reading → List ℕ
-answerLine r = lineOf (r .verdict) (r .record .kind)
