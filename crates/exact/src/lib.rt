@@ -4,6 +4,7 @@ ghost use mathlib.Core.Path.{_≡_};
 ghost use Prim.Native.Nat.{ℕ};
 ghost use Rattle.exact.specs.Claim.{Claim};
 ghost use Rattle.exact.specs.Valueless.{Valueless};
+ghost use Rattle.exact.specs.Network.{number as numberOf};
 ghost use Rattle.exact.specs.Told.{told};
 ghost use Rattle.exact.specs.Literal.{Common, literal as literalOf};
 
@@ -44,4 +45,11 @@ pub fn literal(s: &[u8], w: &[u8]) -> Scan
         return Scan::More;
     }
     Scan::Refused(n)
+}
+
+// The number of two bytes, high byte first.
+pub fn number(high: u8, low: u8) -> u16
+    ensures { λ r. ⌜ r ≡ numberOf high low ⌝ }
+{
+    high as u16 * 256 + low as u16
 }
