@@ -35,7 +35,8 @@ fn judge_one(buffer: &mut [u8]) -> bool {
 
 fn main() {
     let mut buffer = io::large_buffer();
-    let mut left: usize = 1000000;
+    // More cases than anybody can send: a loop needs an end.
+    let mut left: u64 = 0xFFFF_FFFF_FFFF_FFFF;
     while 0 < left {
         if judge_one(&mut buffer) {
             left -= 1;

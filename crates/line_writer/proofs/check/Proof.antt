@@ -1,6 +1,6 @@
 -- `check` makes its tests in the order of `lineAnswer`.
 use Prim.Native.Nat.{_≤_, _<_}
-use mathlib.Core.Path.{_≡_, sym, _∙_}
+use mathlib.Core.Path.{_≡_, sym, ap, _∙_}
 use mathlib.Core.Bool.{true}
 use native.Mathlib.Omega.{arith}
 use borrow.Author.Needs.{needs}
@@ -8,6 +8,7 @@ use borrow.Author.Tests.{not-true, not-false, le-leb, lt-leb}
 use lib.ListN.{length}
 use Rattle.record.specs.declared.Record.{Record}
 use Rattle.record.specs.Unused.{cleanTest}
+use Rattle.answer.specs.Answers.{wrote}
 use Rattle.line_writer.specs.Written.{hasForm, writtenLine}
 use Rattle.line_writer.proofs.check.Statement.{statement}
 use Rattle.line_writer.proofs.check.Tie as tie
@@ -43,7 +44,7 @@ returns-4 c =
     let d = c .before in
     let size = start d .pre in
     let long : length (writtenLine (connection d)) ≤ start d .args .room = omega arith in
-    simp (form (d .before .before), tested d, le-leb _ _ long, size)
+    ap wrote size ∙ simp (form (d .before .before), tested d, le-leb _ _ long)
 
 pub check-spec : {M : Type 1} → statement M
 check-spec = tie.close (tie.spec (λ c κs. search needs) returns (λ c κs. search needs) returns-2 returns-3 returns-4)

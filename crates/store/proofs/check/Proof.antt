@@ -1,6 +1,6 @@
 -- `check` makes its tests in the order of `storeAnswer`; the stored form of a record in memory is as long as its kind says.
 use Prim.Native.Nat.{_+_, _≤_, _<_}
-use mathlib.Core.Path.{_≡_, sym, _∙_}
+use mathlib.Core.Path.{_≡_, sym, ap, _∙_}
 use mathlib.Core.Bool.{true}
 use native.Mathlib.Omega.{arith}
 use borrow.Author.Needs.{needs}
@@ -10,6 +10,7 @@ use Rattle.record.specs.declared.Record.{Record}
 use Rattle.record.specs.Unused.{cleanTest}
 use Rattle.record.specs.AddressBlockLaws.{address-fits, port-fits}
 use Rattle.record.proofs.InMemory.{in-memory}
+use Rattle.answer.specs.Answers.{wrote}
 use Rattle.store.specs.Stored.{stored}
 use Rattle.store.specs.RoundTrip.{stored-length}
 use Rattle.store.proofs.check.Statement.{statement}
@@ -50,7 +51,7 @@ returns-3 c =
     let d = c .before in
     let size = in-all d in
     let long : length (stored (connection d)) ≤ start d .args .room = omega arith in
-    simp (cleaned d, le-leb _ _ long, size)
+    ap wrote size ∙ simp (cleaned d, le-leb _ _ long)
 
 pub check-spec : {M : Type 1} → statement M
 check-spec = tie.close (tie.spec (λ c κs. search needs) returns (λ c κs. search needs) add-n returns-2 returns-3)
