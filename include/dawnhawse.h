@@ -22,7 +22,7 @@
  *   dawnhawse_next          64   nothing: one TLV is looked at
  *   dawnhawse_step          64   the TLVs from the place to the end of the area, each looked at once
  *   dawnhawse_lookup        64   the TLVs of the area, each looked at once, and those examined once more
- *   dawnhawse_write_v1    3072   nothing: at most 104 bytes are written
+ *   dawnhawse_write_v1    3200   nothing: at most 104 bytes are written
  *   dawnhawse_write_v2     800   the TLVs of the area, each looked at once, and the bytes written
  *   dawnhawse_store        800   nothing: at most 222 bytes are written
  *   dawnhawse_load         800   nothing: at most 222 bytes are read
