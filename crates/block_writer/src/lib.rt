@@ -10,7 +10,6 @@ use record::kind_byte;
 use record::put_addresses;
 use tlv::well_formed;
 ghost use mathlib.Core.Path.{_≡_};
-ghost use Prim.Native.Nat.{_<_};
 ghost use lib.ListN.{length};
 ghost use Rattle.lent.specs.Placed.{placed};
 ghost use Rattle.answer.specs.Answers.{toldWritten, outputAfter};
@@ -44,10 +43,9 @@ fn command(kind: Kind) -> u8
     }
 }
 
-// Puts the sixteen bytes before a block of n bytes: the signature, bytes 12 and 13, and the length.
-fn put_head(kind: Kind, n: usize, out: &mut [u8])
-    requires { ⌜ n < 65536 ⌝ }
-    ensures { λ _. ⌜ now (out .exit) ≡ placed (headOf kind n) 0 (now (out .entry)) ⌝ }
+// Puts the sixteen bytes before a block of this size, where they fit: the signature, bytes 12 and 13, and the length.
+pub fn put_head(kind: Kind, size: u16, out: &mut [u8])
+    ensures { λ _. ⌜ now (out .exit) ≡ placed (headOf kind size) 0 (now (out .entry)) ⌝ }
 {
     let head = [
         0x0D,
@@ -64,8 +62,8 @@ fn put_head(kind: Kind, n: usize, out: &mut [u8])
         0x0A,
         command(kind),
         kind_byte(kind),
-        (n / 256) as u8,
-        (n % 256) as u8,
+        (size / 256) as u8,
+        (size % 256) as u8,
     ];
     put(&head, out, 0);
 }
@@ -107,7 +105,7 @@ pub fn write_block(connection: Record, area: &[u8], out: &mut [u8]) -> Written
         Written::Refused(_) => answer,
         Written::Bytes(_) => {
             let block = block_length(kind);
-            put_head(kind, block + area.len(), out);
+            put_head(kind, (block + area.len()) as u16, out);
             put_addresses(connection, out, 16);
             put(area, out, 16 + block);
             answer

@@ -15,7 +15,7 @@ returns c =
     let d = c .before .before .before .before .before in
     let x = d .before .before .before .args in
     c .before .before .put .ensures
-    ∙ ap₂ (λ (a b : ℕ). placed (signature ++ a ∷ b ∷ network (x .n)) 0 (now (x .out))) (d .before .command .ensures) (d .kind-byte .ensures)
+    ∙ ap₂ (λ (a b : ℕ). placed (signature ++ a ∷ b ∷ network (x .size)) 0 (now (x .out))) (d .before .command .ensures) (d .kind-byte .ensures)
 
 pub put-head-spec : {M : Type 1} → statement M
 put-head-spec =

@@ -106,8 +106,8 @@ module _ (c : tie.After-block-length) where
 add-put-head : tie.Need-add-put-head
 add-put-head c = let h = small c in omega arith
 
-put-head-requires : tie.Need-put-head-requires
-put-head-requires c κs = small (c .before)
+cast-put-head : tie.Need-cast-put-head
+cast-put-head c = let h = small c in omega arith
 
 add-put : tie.Need-add-put
 add-put c = let h = small (c .before .before .before .before .before .before .before .before .before) in omega arith
@@ -133,7 +133,8 @@ write-block-spec =
     (λ c. search needs)
     (λ c κs. search needs)
     add-put-head
-    put-head-requires
+    cast-put-head
+    (λ c κs. search needs)
     (λ c κs. search needs)
     add-put
     (λ c κs. search needs)
