@@ -7,7 +7,7 @@ use lib.ListN.{length, getD, drop}
 use Rattle.tlv.specs.Tlv.{Tlv, Area, WellFormed}
 use Rattle.tlv.specs.Laws.{area-one}
 use Rattle.lookup.specs.Lookup.{absent, gaveUp, toldLookup, foundAt, without, lookupIn, LooksUp}
-use Rattle.tlv.specs.Heads.{sizeAt, head-type, head-size, head-room, head-rest, none-left, some-left}
+use Rattle.tlv.specs.Heads.{sizeAt, size-room, head-type, head-size, head-rest, none-left, some-left}
 use Rattle.lookup.specs.Steps.{past, past-start, past-past, lookup-none, lookup-out, lookup-found, lookup-past}
 use Rattle.lookup.specs.declared.Answer.{Answer}
 use Rattle.lookup.specs.declared.Answer.the-variants.{Found, Absent, GaveUp, IllFormed}
@@ -77,11 +77,7 @@ module _ (s : List ℕ) (wanted limit : ℕ) where
     ahead = ahead-by (l .rest) (l .remains) (l .answer)
 
     pub left-room : at < length s → at + 3 + sizeAt s at ≤ length s
-    left-room h =
-        let t = ahead h in
-        let e = head-size s at (t .tlv) (t .rest) (t .remains) in
-        let g = head-room s at (t .tlv) (t .rest) (t .remains) in
-        omega arith
+    left-room h = size-room s at (l .rest) h (l .remains)
 
     pub left-out : at < length s → limit ≤ count → LooksUp s wanted limit (examined GaveUp count 0 0)
     left-out h out =
@@ -93,26 +89,26 @@ module _ (s : List ℕ) (wanted limit : ℕ) where
         ∙ ap (past count at) (lookup-out (t .tlv) (t .rest) wanted) in
         answers (t .all) (examined GaveUp count 0 0) (t .area) (sym (t .answer ∙ e ∙ ap (without gaveUp) n)) (l .within)
 
-    module _ (h : at < length s) (some : count < limit) where
+    module _ (size : ℕ) (is-size : size ≡ sizeAt s at) (h : at < length s) (some : count < limit) where
       more : limit - count ≡ suc (limit - (count + 1))
       more = omega arith
 
-      pub left-found : getD s at 0 ≡ wanted → LooksUp s wanted limit (examined Found (count + 1) (at + 3) (sizeAt s at))
+      pub left-found : getD s at 0 ≡ wanted → LooksUp s wanted limit (examined Found (count + 1) (at + 3) size)
       left-found is =
           let t = ahead h in
           let e =
           t .answer
           ∙ ap (λ (m : ℕ). past count at (lookupIn (t .tlv ∷ t .rest) wanted m)) more
           ∙ ap (past count at) (lookup-found (t .tlv) (t .rest) wanted (limit - (count + 1)) (sym (head-type s at (t .tlv) (t .rest) (t .remains)) ∙ is))
-          ∙ ap (foundAt (count + 1) (at + 3)) (sym (head-size s at (t .tlv) (t .rest) (t .remains))) in
-          answers (t .all) (examined Found (count + 1) (at + 3) (sizeAt s at)) (t .area) (sym e) (omega arith)
+          ∙ ap (foundAt (count + 1) (at + 3)) (sym (is-size ∙ head-size s at (t .tlv) (t .rest) (t .remains))) in
+          answers (t .all) (examined Found (count + 1) (at + 3) size) (t .area) (sym e) (omega arith)
 
-      pub left-again : (getD s at 0 ≡ wanted → ⊥) → Left s wanted limit (at + 3 + sizeAt s at) (count + 1)
+      pub left-again : (getD s at 0 ≡ wanted → ⊥) → Left s wanted limit (at + 3 + size) (count + 1)
       left-again not =
           let t = ahead h in
-          let size = head-size s at (t .tlv) (t .rest) (t .remains) in
-          let next : at + (3 + length (t .tlv .value)) ≡ at + 3 + sizeAt s at = omega arith in
-          let place : at + 3 + length (t .tlv .value) ≡ at + 3 + sizeAt s at = omega arith in
+          let e = head-size s at (t .tlv) (t .rest) (t .remains) in
+          let next : at + (3 + length (t .tlv .value)) ≡ at + 3 + size = omega arith in
+          let place : at + 3 + length (t .tlv .value) ≡ at + 3 + size = omega arith in
           record {
             all = t .all;
             rest = t .rest;

@@ -1,6 +1,7 @@
 // Lookup: the first TLV of a type in a TLV area, of which at most as many TLVs are examined as a limit says.
 // No public function has a `requires`.
 ghost use Rattle.lookup.specs.Lookup.{LooksUp};
+use exact::number;
 
 // What a lookup finds out.
 pub enum Answer {
@@ -39,7 +40,7 @@ pub fn lookup(area: &[u8], wanted: u8, limit: usize) -> Examined
                 };
             }
             count = count + 1;
-            let size = 256 * (area[at + 1] as usize) + (area[at + 2] as usize);
+            let size = number(area[at + 1], area[at + 2]) as usize;
             if area[at] == wanted {
                 return Examined {
                     answer: Answer::Found,

@@ -4,6 +4,7 @@ ghost use mathlib.Core.Path.{_≡_};
 ghost use lib.ListN.{drop};
 ghost use Rattle.tlv.specs.Tlv.{WellFormed};
 ghost use Rattle.walker.specs.Step.{toldStep, headAt, stepAt, ValuePart, placeAfter, within};
+use exact::number;
 
 // What a step shows: a TLV's type, where its value starts in the area and its length; or the end; or the refusal, 12.
 pub enum Shown {
@@ -31,7 +32,7 @@ pub fn head_at(area: &[u8], at: usize) -> Shown
         if area.len() - at < 3 {
             Shown::Refused
         } else {
-            let length = 256 * (area[at + 1] as usize) + (area[at + 2] as usize);
+            let length = number(area[at + 1], area[at + 2]) as usize;
             if area.len() - at - 3 < length {
                 Shown::Refused
             } else {
@@ -48,7 +49,7 @@ pub fn head_at(area: &[u8], at: usize) -> Shown
 }
 
 // What stands at a place, if what remains from it is well-formed: each step looks at all of it.
-pub fn step_at(area: &[u8], at: usize) -> Shown
+fn step_at(area: &[u8], at: usize) -> Shown
     ensures { λ r. ⌜ toldStep r ≡ stepAt (now (area .entry)) at ⌝ }
 {
     if area.len() < at {

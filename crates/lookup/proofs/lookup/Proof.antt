@@ -3,8 +3,9 @@ use Prim.Native.Nat.{ℕ, _+_, _-_, _≤_, _<_}
 use mathlib.Core.Path.{_≡_, sym, _∙_}
 use mathlib.Core.List.{List}
 use native.Mathlib.Omega.{arith}
-use lib.ListN.{length, getD}
-use Rattle.tlv.specs.Heads.{sizeAt}
+use borrow.Author.Needs.{needs}
+use lib.ListN.{length}
+use Rattle.tlv.specs.Heads.{sizeAt, size-bytes}
 use Rattle.lookup.specs.Turn.{Left, left-start, left-ill, left-done, left-room, left-out, left-found, left-again}
 use Rattle.lookup.proofs.lookup.Statement.{statement}
 use Rattle.lookup.proofs.lookup.Tie as tie
@@ -28,14 +29,19 @@ module _ (c : tie.At-loop Inv-loop μ-loop) where
   abbrev place : ℕ
   place = c .loop .at
 
-  bytes : (j : ℕ) → getD area j 0 < 256
-  bytes j = c .before .before .before .shared-slice-known .given j .fits
-
   room : place < length area → place + 3 + sizeAt area place ≤ length area
   room = left-room area wanted limit place (c .loop .count) (c .loop .inv)
 
-well-formed-requires : tie.Need-well-formed-requires Inv-loop μ-loop
-well-formed-requires c κs = tt
+-- behind the two length bytes
+module _ (c : tie.After-number Inv-loop μ-loop) where
+  abbrev head : tie.At-loop Inv-loop μ-loop
+  head = c .before .before .before .before .before
+
+  size-is : c .number .result ≡ sizeAt (area head) (place head)
+  size-is = c .number .ensures ∙ sym (size-bytes (area head) (place head))
+
+  ends : place head + 3 + c .number .result ≤ length (area head)
+  ends = let h = room head (omega arith) in omega (arith, size-is)
 
 loop-holds : tie.Need-loop-holds Inv-loop μ-loop
 loop-holds c =
@@ -50,56 +56,37 @@ returns c =
 add-count : tie.Need-add-count Inv-loop μ-loop
 add-count c = omega (arith, c .before .before .loop .inv .few)
 
-add-size : tie.Need-add-size Inv-loop μ-loop
-add-size c = omega arith
+shared-slice-read-number : tie.Need-shared-slice-read-number Inv-loop μ-loop
+shared-slice-read-number c = let h = room (c .before .before .before) (omega arith) in omega arith
 
-shared-slice-read-size : tie.Need-shared-slice-read-size Inv-loop μ-loop
-shared-slice-read-size c = let h = room (c .before .before .before) (omega arith) in omega arith
+shared-slice-read-number-2 : tie.Need-shared-slice-read-number-2 Inv-loop μ-loop
+shared-slice-read-number-2 c = let h = room (c .before .before .before .before) (omega arith) in omega arith
 
-cast-size : tie.Need-cast-size Inv-loop μ-loop
-cast-size c = let l = c .before .before .before in omega (arith, bytes l (place l + 1))
-
-mul-size : tie.Need-mul-size Inv-loop μ-loop
-mul-size c = let l = c .before .before .before in omega (arith, bytes l (place l + 1))
-
-add-size-2 : tie.Need-add-size-2 Inv-loop μ-loop
-add-size-2 c = omega arith
-
-shared-slice-read-size-2 : tie.Need-shared-slice-read-size-2 Inv-loop μ-loop
-shared-slice-read-size-2 c = let h = room (c .before .before .before .before) (omega arith) in omega arith
-
-cast-size-2 : tie.Need-cast-size-2 Inv-loop μ-loop
-cast-size-2 c = let l = c .before .before .before .before in omega (arith, bytes l (place l + 2))
-
-add-size-3 : tie.Need-add-size-3 Inv-loop μ-loop
-add-size-3 c =
-    let l = c .before .before .before .before in
-    omega (arith, bytes l (place l + 1), bytes l (place l + 2))
-
-shared-slice-read-if3 : tie.Need-shared-slice-read-if3 Inv-loop μ-loop
-shared-slice-read-if3 c = omega arith
-
-add-t22 : tie.Need-add-t22 Inv-loop μ-loop
-add-t22 c = let h = room (c .before .before .before .before .before .before) (omega arith) in omega arith
+add-start : tie.Need-add-t20 Inv-loop μ-loop
+add-start c = let h = ends (c .before .before) in omega arith
 
 returns-2 : tie.Need-returns-2 Inv-loop μ-loop
 returns-2 c =
-    let l = c .before .before .before .before .before .before in
-    left-found (area l) (wanted l) (limit l) (place l) (l .loop .count) (l .loop .inv) (omega arith) (omega arith) (c .if3 .taken)
+    let n = c .before .before in
+    let l = head n in
+    left-found (area l) (wanted l) (limit l) (place l) (l .loop .count) (l .loop .inv) (n .number .result) (size-is n) (omega arith) (omega arith)
+    (c .if3 .taken)
 
 add-at : tie.Need-add-at Inv-loop μ-loop
-add-at c = let h = room (c .before .before .before .before .before .before) (omega arith) in omega arith
+add-at c = let h = ends (c .before .before) in omega arith
 
 add-at-2 : tie.Need-add-at-2 Inv-loop μ-loop
-add-at-2 c = let h = room (c .before .before .before .before .before .before) (omega arith) in omega arith
+add-at-2 c = let h = ends (c .before .before) in omega arith
 
 loop-less : tie.Need-loop-less Inv-loop μ-loop
-loop-less c = let h = room (c .before .before .before .before .before .before) (omega arith) in omega arith
+loop-less c = let h = ends (c .before .before) in omega arith
 
 loop-again : tie.Need-loop-again Inv-loop μ-loop
 loop-again c =
-    let l = c .before .before .before .before .before .before in
-    left-again (area l) (wanted l) (limit l) (place l) (l .loop .count) (l .loop .inv) (omega arith) (omega arith) (c .if3 .left)
+    let n = c .before .before in
+    let l = head n in
+    left-again (area l) (wanted l) (limit l) (place l) (l .loop .count) (l .loop .inv) (n .number .result) (size-is n) (omega arith) (omega arith)
+    (c .if3 .left)
 
 returns-3 : tie.Need-returns-3 Inv-loop μ-loop
 returns-3 c =
@@ -118,20 +105,18 @@ lookup-spec =
     (tie.spec
     Inv-loop
     μ-loop
-    well-formed-requires
+    (λ c κs. search needs)
     loop-holds
     returns
     add-count
-    add-size
-    shared-slice-read-size
-    cast-size
-    mul-size
-    add-size-2
-    shared-slice-read-size-2
-    cast-size-2
-    add-size-3
-    shared-slice-read-if3
-    add-t22
+    (λ c. search needs)
+    shared-slice-read-number
+    (λ c. search needs)
+    shared-slice-read-number-2
+    (λ c κs. search needs)
+    (λ c. search needs)
+    (λ c. search needs)
+    add-start
     returns-2
     add-at
     add-at-2
