@@ -1,13 +1,13 @@
--- Laws of TLV areas: an area has one TLV list, joined lists are written one behind the other, and an area is of bytes.
+-- Laws of TLV areas: an area has one TLV list, one TLV is an area, joined lists are written one behind the other, and an area is of bytes.
 use mathlib.Core.Path.{_≡_, refl, sym, ap, _∙_, subst}
-use mathlib.Core.List.{List, [], _∷_, _++_, append-assoc}
-use Prim.Native.Nat.{ℕ}
+use mathlib.Core.List.{List, [], _∷_, _++_, append-nil, append-assoc}
+use Prim.Native.Nat.{ℕ, _<_}
 use native.Mathlib.Omega.{arith}
 use lib.ListN.{length, getD, take, drop}
 use lib.Seq.{take-at, drop-at}
 use Rattle.exact.specs.Claim.{AllBytes}
 use Rattle.exact.specs.Parser.{bytes-append}
-use Rattle.tlv.specs.Tlv.{Tlv, written, Proper, Area, WellFormed}
+use Rattle.tlv.specs.Tlv.{Tlv, tlvBytes, written, Proper, Area, WellFormed}
 
 -- lists that begin with parts of one length have the same parts
 same-parts : (a b c d : List ℕ) → length a ≡ length c → a ++ b ≡ c ++ d → (a ≡ c) × (b ≡ d)
@@ -35,6 +35,10 @@ written-one (t ∷ a) (u ∷ b) e =
 -- the TLV list is a function of the area
 pub area-one : (f : List ℕ) (a b : List Tlv) → Area f a → Area f b → a ≡ b
 area-one f a b x y = written-one a b (sym (x .0) ∙ y .0)
+
+-- the bytes of one TLV are an area
+pub one-area : (t : Tlv) → t .type < 256 → AllBytes (t .value) → length (t .value) < 65536 → Area (tlvBytes (t .type) (t .value)) (t ∷ [])
+one-area t type bytes size = (sym (append-nil (tlvBytes (t .type) (t .value))), (type, bytes, size, tt))
 
 -- joining is concatenation
 pub written-append : (a b : List Tlv) → written (a ++ b) ≡ written a ++ written b

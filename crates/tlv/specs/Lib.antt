@@ -7,3 +7,6 @@ pub mod Turn
 pub mod Whole
 pub mod Test
 pub mod Heads
+pub mod Put
+pub mod Count
+pub mod CountLaws

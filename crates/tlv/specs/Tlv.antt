@@ -1,18 +1,23 @@
 -- TLV areas: document 01, "The binary block" and "Looking into TLVs".
 use mathlib.Core.Path.{_≡_}
 use mathlib.Core.List.{List, [], _∷_, _++_}
-use Prim.Native.Nat.{ℕ, _/_, _%_, _<_}
+use Prim.Native.Nat.{ℕ, _<_}
 use lib.ListN.{length}
 use Rattle.exact.specs.Claim.{AllBytes}
+use Rattle.exact.specs.Network.{network}
 
 pub record Tlv : Type 0 where
   pub type : ℕ
   pub value : List ℕ
 
--- "TLVs: type, two length bytes (high first), value", one behind the other
+-- "type, two length bytes (high first), value"
+abbrev pub tlvBytes : ℕ → List ℕ → List ℕ
+tlvBytes type value = type ∷ network (length value) ++ value
+
+-- the bytes of TLVs, one behind the other
 abbrev pub written : List Tlv → List ℕ
 written [] = []
-written (t ∷ rest) = t .type ∷ length (t .value) / 256 ∷ length (t .value) % 256 ∷ t .value ++ written rest
+written (t ∷ rest) = tlvBytes (t .type) (t .value) ++ written rest
 
 -- types and values are of bytes, and two bytes hold the length
 abbrev pub Proper : List Tlv → Type 0

@@ -9,7 +9,18 @@ ghost use Rattle.exact.specs.Valueless.{Valueless};
 ghost use Rattle.exact.specs.Told.{told};
 ghost use Rattle.tlv.specs.Tlv.{WellFormed, Filled};
 ghost use Rattle.tlv.specs.Region.{good, judge};
+ghost use Rattle.tlv.specs.Put.{tlvPlaced};
+ghost use Rattle.tlv.specs.Count.{Counts};
 use exact::Scan;
+use exact::number;
+use lent::put;
+
+// How many TLVs of a type an area has.
+pub enum Count {
+    Tlvs(usize),
+    // TLVs do not fill the area: document 01's number 12.
+    IllFormed,
+}
 
 // Whether a length is good: TLVs can fill what a value of that size leaves of the room behind the head.
 fn is_good(size: usize, room: usize) -> bool
@@ -72,5 +83,41 @@ pub fn well_formed(s: &[u8]) -> bool
         Scan::Accepted(_, _) => true,
         Scan::More => false,
         Scan::Refused(_) => false,
+    }
+}
+
+// Counts the TLVs of a type; an ill-formed area is refused.
+pub fn count_of(area: &[u8], wanted: u8) -> Count
+    ensures { λ r. ⌜ Counts (now (area .entry)) wanted r ⌝ }
+{
+    if well_formed(area) {
+        let mut at: usize = 0;
+        let mut count: usize = 0;
+        while at < area.len() {
+            let size = number(area[at + 1], area[at + 2]) as usize;
+            if area[at] == wanted {
+                count = count + 1;
+            }
+            at = at + 3 + size;
+        }
+        Count::Tlvs(count)
+    } else {
+        Count::IllFormed
+    }
+}
+
+// Puts one TLV at this place of the output. Where it does not fit, or its value has more than 65,535 bytes, the output stays as it is.
+pub fn put_tlv(tlv_type: u8, value: &[u8], out: &mut [u8], at: usize)
+    ensures { λ _. ⌜ now (out .exit) ≡ tlvPlaced «tlv_type» (now (value .entry)) at (now (out .entry)) ⌝ }
+{
+    let size = value.len();
+    if size < 65536 {
+        if at <= out.len() {
+            if 3 + size <= out.len() - at {
+                let head = [tlv_type, (size / 256) as u8, (size % 256) as u8];
+                put(&head, out, at);
+                put(value, out, at + 3);
+            }
+        }
     }
 }
