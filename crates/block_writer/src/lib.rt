@@ -1,6 +1,7 @@
 // The version 2 writer (document 01, "The binary block"). No public function has a `requires`.
 use answer::Fault;
 use answer::Written;
+use answer::is_written;
 use lent::put;
 use record::Kind;
 use record::Record;
@@ -101,14 +102,13 @@ pub fn write_block(connection: Record, area: &[u8], out: &mut [u8]) -> Written
 {
     let kind = connection.kind;
     let answer = check(connection, area, out.len());
-    match answer {
-        Written::Refused(_) => answer,
-        Written::Bytes(_) => {
-            let block = block_length(kind);
-            put_head(kind, (block + area.len()) as u16, out);
-            put_addresses(connection, out, 16);
-            put(area, out, 16 + block);
-            answer
-        }
+    let written = is_written(answer);
+    if !written {
+        return answer;
     }
+    let block = block_length(kind);
+    put_head(kind, (block + area.len()) as u16, out);
+    put_addresses(connection, out, 16);
+    put(area, out, 16 + block);
+    answer
 }

@@ -1,6 +1,7 @@
 // The version 1 writer (document 01, "The text line"). No public function has a `requires`.
 use answer::Fault;
 use answer::Written;
+use answer::is_written;
 use draft::Draft;
 use draft::empty;
 use draft::push;
@@ -168,11 +169,10 @@ pub fn write_line(connection: Record, out: &mut [u8]) -> Written
     let bytes = draft.bytes;
     let n = draft.length;
     let answer = check(connection, n, out.len());
-    match answer {
-        Written::Refused(_) => answer,
-        Written::Bytes(_) => {
-            put(&bytes[..n], out, 0);
-            answer
-        }
+    let written = is_written(answer);
+    if !written {
+        return answer;
     }
+    put(&bytes[..n], out, 0);
+    answer
 }

@@ -2,6 +2,7 @@
 // No public function has a `requires`.
 use answer::Fault;
 use answer::Written;
+use answer::is_written;
 use lent::put;
 use record::Family;
 use record::Kind;
@@ -116,15 +117,14 @@ pub fn store(connection: Record, out: &mut [u8]) -> Written
 {
     let kind = connection.kind;
     let answer = check(connection, out.len());
-    match answer {
-        Written::Refused(_) => answer,
-        Written::Bytes(_) => {
-            let head = [0x43, 0x53, 0x52, 0x00, 0x01, code_of(kind)];
-            put(&head, out, 0);
-            put_addresses(connection, out, 6);
-            answer
-        }
+    let written = is_written(answer);
+    if !written {
+        return answer;
     }
+    let head = [0x43, 0x53, 0x52, 0x00, 0x01, code_of(kind)];
+    put(&head, out, 0);
+    put_addresses(connection, out, 6);
+    answer
 }
 
 fn refused(flaw: Flaw) -> Loaded

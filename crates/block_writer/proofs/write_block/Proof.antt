@@ -4,6 +4,7 @@ use mathlib.Core.Path.{_≡_, sym, ap, _∙_, subst}
 use mathlib.Core.List.{List, _++_, append-assoc}
 use native.Mathlib.Omega.{arith}
 use borrow.Author.Needs.{needs}
+use borrow.Author.Tests.{not-true, not-false}
 use denote.Ref.{now}
 use lib.ListN.{length, drop, length-append}
 use Rattle.record.specs.declared.Record.{Record}
@@ -14,8 +15,8 @@ use Rattle.record.specs.AddressBlockLaws.{block-size}
 use Rattle.lent.specs.Placed.{placed}
 use Rattle.lent.specs.PlacedLaws.{placed-then, placed-start}
 use Rattle.record.proofs.InMemory.{in-memory}
-use Rattle.answer.specs.Answers.{WriteAnswer, toldWritten, outputAfter}
-use Rattle.answer.specs.OutputLaws.{output-refused, output-written}
+use Rattle.answer.specs.Answers.{WriteAnswer, wrote, toldWritten, outputAfter}
+use Rattle.answer.specs.OutputLaws.{output-refused, is-wrote, output-written}
 use Rattle.block_writer.specs.Written.{headOf, blockOf, writtenBlock, CarriedByBlock, blockAnswer}
 use Rattle.block_writer.specs.WrittenLaws.{block-length}
 use Rattle.block_writer.specs.Demand.{Means, answer-means, block-accepted, ReadsBack, reads-back}
@@ -80,21 +81,30 @@ module _ (c : tie.After-check) where
 
 returns : tie.Need-returns
 returns c =
-    let d = c .before .before in
-    promise d (out d) (output-refused (text d) (out d) (d .check .ensures) _ (c .enum-told .given .1))
+    let told = c .before in
+    let d = told .before in
+    promise d (out d)
+    (output-refused (answer d) (d .check .result) (d .check .ensures) (told .is-written .ensures) (text d) (out d)
+    (not-true (told .is-written .result) (c .if1 .taken)))
 
 module _ (c : tie.After-block-length) where
+  abbrev told : tie.After-is-written
+  told = c .before .before
+
   abbrev checked : tie.After-check
-  checked = c .before .before .before
+  checked = told .before
+
+  some : (n : ℕ) × (answer checked ≡ wrote n)
+  some =
+      is-wrote (answer checked) (checked .check .result) (checked .check .ensures) (told .is-written .ensures)
+      (not-false (told .is-written .result) (c .before .if1 .left))
 
   abbrev n : ℕ
-  n = c .before .enum-told2 .given .0 .0
+  n = some .0
 
   -- what is written is what version 2 can carry, and fits
   carried : CarriedByBlock (connection checked) (area checked) × (length (text checked) ≡ n) × (n ≤ length (out checked))
-  carried =
-      block-accepted (connection checked) (area checked) (length (out checked)) n (sized checked)
-      (sym (checked .check .ensures) ∙ ap toldWritten (c .before .enum-told2 .given .1))
+  carried = block-accepted (connection checked) (area checked) (length (out checked)) n (sized checked) (some .1)
 
   small : c .block-length .result + length (area checked) < 65536
   small =
@@ -122,15 +132,15 @@ returns-2 c =
     promise d _
     (whole (connection d) (area d) (sized d) (sizes .block-length .result) (n sizes) _ _ _ _ (sizes .block-length .ensures) (sym (carried sizes .1))
     (carried sizes .2) (c₁ .put-head .ensures) (c₂ .put-addresses .ensures) (c₃ .put .ensures)
-    ∙ output-written (text d) (out d) (d .check .ensures) (n sizes) (sizes .before .enum-told2 .given .1))
+    ∙ output-written (answer d) (text d) (out d) (n sizes) (some sizes .1))
 
 pub write-block-spec : {M : Type 1} → statement M
 write-block-spec =
     tie.close
     (tie.spec
     (λ c κs. search needs)
-    (λ c. search needs)
-    (λ c. search needs)
+    (λ c κs. search needs)
+    returns
     (λ c κs. search needs)
     add-put-head
     cast-put-head
@@ -138,6 +148,5 @@ write-block-spec =
     (λ c κs. search needs)
     add-put
     (λ c κs. search needs)
-    returns
     (λ c. search needs)
     returns-2)

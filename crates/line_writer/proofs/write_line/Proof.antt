@@ -5,6 +5,7 @@ use Prim.Native.Nat.{ℕ, _≤_}
 use native.Mathlib.Omega.{arith}
 use lib.ListN.{length, take, length-take}
 use borrow.Author.Needs.{needs}
+use borrow.Author.Tests.{not-true, not-false}
 use denote.Ref.{now}
 use Rattle.record.specs.declared.Record.{Record}
 use Rattle.record.specs.Records.{Sized}
@@ -14,7 +15,7 @@ use Rattle.record.proofs.InMemory.{in-memory}
 use Rattle.draft.specs.Drafts.{draftOf}
 use Rattle.draft.specs.DraftLaws.{appended-draft, draft-size, draft-says, draft-room}
 use Rattle.answer.specs.Answers.{WriteAnswer, toldWritten, outputAfter}
-use Rattle.answer.specs.OutputLaws.{output-refused, output-written}
+use Rattle.answer.specs.OutputLaws.{output-refused, is-wrote, output-written}
 use Rattle.line_writer.specs.Written.{writtenLine, lineAnswer}
 use Rattle.line_writer.specs.LineLaws.{written-fits}
 use Rattle.line_writer.specs.Demand.{Means, answer-means, line-accepted, ReadsBack, reads-back}
@@ -81,23 +82,25 @@ slice-aggregate-put c =
 
 returns : tie.Need-returns
 returns c =
-    let d = c .before .before in
-    promise d (out d) (output-refused (writtenLine (connection (drafted d))) (out d) (d .check .ensures) _ (c .enum-told .given .1))
+    let told = c .before in
+    let d = told .before in
+    promise d (out d)
+    (output-refused (answer d) (d .check .result) (d .check .ensures) (told .is-written .ensures) (writtenLine (connection (drafted d))) (out d) (not-true (told .is-written .result) (c .if1 .taken)))
 
 returns-2 : tie.Need-returns-2
 returns-2 c =
     let written = c .before .before in
-    let told = written .before .before .before in
-    let d = told .before .before in
+    let left = written .before .before .before in
+    let told = left .before in
+    let d = told .before in
     let line = writtenLine (connection (drafted d)) in
-    let n = told .enum-told2 .given .0 .0 in
-    let is = told .enum-told2 .given .1 in
-    let w = line-accepted (connection (drafted d)) (length (out d)) n (sized (drafted d)) (sym (d .check .ensures) ∙ ap toldWritten is) in
+    let some = is-wrote (answer d) (d .check .result) (d .check .ensures) (told .is-written .ensures) (not-false (told .is-written .result) (left .if1 .left)) in
+    let w = line-accepted (connection (drafted d)) (length (out d)) (some .0) (sized (drafted d)) (some .1) in
     promise d _
-    (placed-start line (out d) _ n
+    (placed-start line (out d) _ (some .0)
     (written .put .ensures ∙ ap (λ (t : List ℕ). placed t 0 (out d)) (says (drafted d)))
     (w .1) (w .2)
-    ∙ output-written line (out d) (d .check .ensures) n is)
+    ∙ output-written (answer d) line (out d) (some .0) (some .1))
 
 pub write-line-spec : {M : Type 1} → statement M
 write-line-spec =
@@ -105,11 +108,10 @@ write-line-spec =
     (tie.spec
     (λ c κs. search needs)
     check-requires
-    (λ c. search needs)
-    (λ c. search needs)
+    (λ c κs. search needs)
+    returns
     array-share-prefix-bytes
     slice-aggregate-put
     (λ c κs. search needs)
-    returns
     (λ c. search needs)
     returns-2)

@@ -4,6 +4,7 @@ use mathlib.Core.Path.{_≡_, sym, ap, _∙_, subst}
 use mathlib.Core.List.{List, [], _∷_, _++_}
 use native.Mathlib.Omega.{arith}
 use borrow.Author.Needs.{needs}
+use borrow.Author.Tests.{not-true, not-false}
 use denote.Ref.{now}
 use lib.ListN.{length, drop, length-append}
 use Rattle.record.specs.declared.Record.{Record}
@@ -14,9 +15,8 @@ use Rattle.record.specs.AddressBlockLaws.{block-size}
 use Rattle.lent.specs.Placed.{placed}
 use Rattle.lent.specs.PlacedLaws.{placed-then, placed-start}
 use Rattle.record.proofs.InMemory.{in-memory}
-use Rattle.answer.specs.declared.Written.{Written}
 use Rattle.answer.specs.Answers.{WriteAnswer, toldWritten, outputAfter}
-use Rattle.answer.specs.OutputLaws.{output-refused, output-written}
+use Rattle.answer.specs.OutputLaws.{output-refused, is-wrote, output-written}
 use Rattle.store.specs.Stored.{mark, formVersion, codeOf, stored, storeAnswer}
 use Rattle.store.specs.Meaning.{Means, LoadsBack}
 use Rattle.store.specs.RoundTrip.{stored-length, answer-means, store-written, loads-back}
@@ -66,35 +66,37 @@ module _ (c : tie.After-check) where
 
 returns : tie.Need-returns
 returns c =
-    let d = c .before .before in
-    promise d (out d) (output-refused (stored (connection d)) (out d) (d .check .ensures) _ (c .enum-told .given .1))
+    let told = c .before in
+    let d = told .before in
+    promise d (out d)
+    (output-refused (answer d) (d .check .result) (d .check .ensures) (told .is-written .ensures) (stored (connection d)) (out d) (not-true (told .is-written .result) (c .if1 .taken)))
 
 returns-2 : tie.Need-returns-2
 returns-2 c =
     let c₂ = c .before .before in
     let c₁ = c₂ .before .before .before .before in
     let coded = c₁ .before .before .before in
-    let d = coded .before .before .before in
-    let is = coded .before .enum-told2 .given .1 in
-    let n = coded .before .enum-told2 .given .0 .0 in
-    let w = store-written (connection d) (length (out d)) n (sized d) (sym (d .check .ensures) ∙ ap toldWritten is) in
+    let told = coded .before .before in
+    let d = told .before in
+    let some = is-wrote (answer d) (d .check .result) (d .check .ensures) (told .is-written .ensures) (not-false (told .is-written .result) (coded .before .if1 .left)) in
+    let n = some .0 in
+    let w = store-written (connection d) (length (out d)) n (sized d) (some .1) in
     let l = stored-length (connection d) (sized d) in
     promise d _
     (whole (connection d) (sized d) (coded .code-of .result) n _ _ _ (coded .code-of .ensures) (omega arith) (w .2) (c₁ .put .ensures)
     (c₂ .put-addresses .ensures)
-    ∙ output-written (stored (connection d)) (out d) (d .check .ensures) n is)
+    ∙ output-written (answer d) (stored (connection d)) (out d) n (some .1))
 
 pub store-spec : {M : Type 1} → statement M
 store-spec =
     tie.close
     (tie.spec
     (λ c κs. search needs)
-    (λ c. search needs)
-    (λ c. search needs)
-    (λ c κs. search needs)
-    (λ c. search needs)
-    (λ c κs. search needs)
     (λ c κs. search needs)
     returns
+    (λ c κs. search needs)
+    (λ c. search needs)
+    (λ c κs. search needs)
+    (λ c κs. search needs)
     (λ c. search needs)
     returns-2)
