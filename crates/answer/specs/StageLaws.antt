@@ -7,7 +7,7 @@ use lib.ListN.{length, take, drop}
 use Rattle.exact.specs.Claim.{Verdict, accepted, more, refused}
 use Rattle.exact.specs.Field.{shift, after}
 use Rattle.exact.specs.Parser.{Parser, _then_, tail-all}
-use Rattle.exact.specs.Stage.{stage-more, stage-refused, stage-accepted}
+use Rattle.exact.specs.Stage.{on, stage-accepted}
 use Rattle.exact.specs.Told.{told}
 use Rattle.exact.specs.declared.Scan.{Scan}
 use Rattle.header.specs.Header.{Header}
@@ -30,27 +30,18 @@ module _ {A : Type 0} (P : Parser A) (Q : A → Parser Header) (s : List ℕ) (a
   Stage x = Sees s (shift at ((P then Q) .verdict (drop at s))) x
 
   pub as-more : {x : Seen} → more ≡ P .verdict (drop at s) → Sees s more x → Stage x
-  as-more e a = sees-as a (stage-more P Q s at e)
+  as-more e a = sees-as a (ap (on P Q s at) e)
 
   pub as-refused : {x : Seen} (k p : ℕ) → refused k p ≡ P .verdict (drop at s) → Sees s (refused k (at + p)) x → Stage x
-  as-refused k p e a = sees-as a (stage-refused P Q s at k p e)
+  as-refused k p e a = sees-as a (ap (on P Q s at) e)
 
   pub as-accepted : {x : Seen} (a : A) (n : ℕ) → accepted a n ≡ P .verdict (drop at s) → Sees s (shift (at + n) (Q a .verdict (drop (at + n) s))) x → Stage x
   as-accepted a n e h = sees-as h (stage-accepted P Q s at a n _ e refl)
 
--- the first stage, which stands at the first byte
-module _ {A : Type 0} (P : Parser A) (Q : A → Parser Header) (s : List ℕ) where
-  abbrev next : Verdict A → Verdict Header
-  next v = after v (λ a t. Q a .verdict t) s
-
-  pub first-more : {x : Seen} → more ≡ P .verdict s → Sees s more x → Sees s ((P then Q) .verdict s) x
-  first-more e a = sees-as a (ap next e)
-
-  pub first-refused : {x : Seen} (k p : ℕ) → refused k p ≡ P .verdict s → Sees s (refused k p) x → Sees s ((P then Q) .verdict s) x
-  first-refused k p e a = sees-as a (ap next e)
-
-  pub first-accepted : {x : Seen} (a : A) (n : ℕ) → accepted a n ≡ P .verdict s → Sees s (shift n (Q a .verdict (drop n s))) x → Sees s ((P then Q) .verdict s) x
-  first-accepted a n e h = sees-as h (ap next e)
+-- the first stage, which stands at the first byte, where its field's verdict is v
+pub as-first : {A : Type 0} (P : Parser A) (Q : A → Parser Header) {s : List ℕ} {x : Seen} (v : Verdict A) → v ≡ P .verdict s
+    → Sees s (after v (λ a r. Q a .verdict r) s) x → Sees s ((P then Q) .verdict s) x
+as-first {A} P Q {s} v e h = sees-as h (ap (λ (w : Verdict A). after w (λ a r. Q a .verdict r) s) e)
 
 -- the end of a line that says c, the caller of its own record
 pub as-line : (s : List ℕ) (n : ℕ) (c : Caller) {d : Caller} → callerOf (callerRecord c) ≡ c → d ≡ c

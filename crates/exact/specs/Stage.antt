@@ -6,7 +6,7 @@ use Prim.Native.Nat.{ℕ, _+_, _≤_}
 use native.Mathlib.Omega.{arith}
 use lib.ListN.{length, drop, length-drop}
 use lib.Seq.{drop-drop}
-use Rattle.exact.specs.Claim.{Verdict, accepted, more, refused}
+use Rattle.exact.specs.Claim.{Verdict, accepted, refused}
 use Rattle.exact.specs.Field.{Exact, after, shift}
 use Rattle.exact.specs.Machine.{shift-shift}
 use Rattle.exact.specs.Parser.{Parser, _then_, reach-le}
@@ -35,14 +35,9 @@ module _ {A : Type 0} (P : Parser A) (s : List ℕ) (at : ℕ) (inside : at ≤ 
       omega arith
 
 module _ {A B : Type 0} (P : Parser A) (Q : A → Parser B) (s : List ℕ) (at : ℕ) where
-  abbrev on : Verdict A → Verdict B
+  -- where the field's verdict is v
+  abbrev pub on : Verdict A → Verdict B
   on v = shift at (after v (λ a r. Q a .verdict r) (drop at s))
-
-  pub stage-more : more ≡ P .verdict (drop at s) → more ≡ shift at ((P then Q) .verdict (drop at s))
-  stage-more e = ap on e
-
-  pub stage-refused : (k p : ℕ) → refused k p ≡ P .verdict (drop at s) → refused k (at + p) ≡ shift at ((P then Q) .verdict (drop at s))
-  stage-refused k p e = ap on e
 
   pub stage-accepted : (a : A) (n : ℕ) (w : Verdict B) → accepted a n ≡ P .verdict (drop at s)
       → w ≡ shift (at + n) (Q a .verdict (drop (at + n) s)) → w ≡ shift at ((P then Q) .verdict (drop at s))

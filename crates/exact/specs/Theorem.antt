@@ -12,7 +12,8 @@ use Rattle.exact.specs.Claim.{Verdict, accepted, more, refused, AllBytes
 use Rattle.exact.specs.Field.{Field, Begins, Alive, Opens, Only, Accepts, Refuses, Exact}
 use Rattle.exact.specs.Machine.{leaf}
 use Rattle.exact.specs.Parser.{Parser, InBytes, bytes-back, same-exact}
-use Rattle.exact.specs.Unique.{fronts, begins-whole, begins-longer, begins-alive, alive-opens, refused-dead, unique-of}
+use Rattle.exact.specs.Sequence.{begins-more}
+use Rattle.exact.specs.Unique.{fronts, begins-whole, begins-alive, alive-opens, refused-dead, unique-of}
 
 -- two places in one text: the same, or one before the other
 places : (u w r t : List ℕ) (c d : ℕ) → u ++ c ∷ r ≡ w ++ d ∷ t
@@ -109,7 +110,7 @@ module _ {A : Type 0} (Whole : List ℕ → A → Type 0) (number : List ℕ →
           rest = drop (suc p) s;
           split = split-at s p 0 (x .0);
           size = length-take-le p s (let h = x .0 in omega arith);
-          opens = live-opens _ (λ b. dead (begins-longer header _ _ b)) (x .1);
+          opens = live-opens _ (λ b. dead (begins-more header _ _ b)) (x .1);
           dead = dead;
           part = x .3;
         }

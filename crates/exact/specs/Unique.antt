@@ -6,6 +6,7 @@ use Prim.Native.Nat.{ℕ}
 use lib.Seq.{append-snoc}
 use Rattle.exact.specs.Claim.{Verdict, accepted, more, refused}
 use Rattle.exact.specs.Field.{Field, Begins, Alive, Opens, Only, Refuses, Exact}
+use Rattle.exact.specs.Sequence.{begins-more}
 use Rattle.exact.specs.Parser.{Parser}
 
 -- two fronts of one text: one continues the other
@@ -20,25 +21,8 @@ module _ {A : Type 0} (F : Field A) where
   abbrev pub begins-whole : (s : List ℕ) (a : A) → F .lang s a → Begins F s
   begins-whole s a w = record { front = s; rest = []; value = a; split = sym (append-nil s); whole = w }
 
-  pub begins-longer : (s t : List ℕ) → Begins F s → Alive F (s ++ t)
-  begins-longer s t b =
-      record {
-        more-bytes = [];
-        begins = record {
-          front = b .front;
-          rest = b .rest ++ t;
-          value = b .value;
-          split = rw (append-nil, b .split) (simp append-assoc);
-          whole = b .whole;
-        };
-      }
-
   pub begins-alive : (s : List ℕ) → Begins F s → Alive F s
-  begins-alive s b =
-      record {
-        more-bytes = [];
-        begins = record { front = b .front; rest = b .rest; value = b .value; split = rw append-nil (b .split); whole = b .whole };
-      }
+  begins-alive s b = rw append-nil at (begins-more F s [] b)
 
   pub alive-opens : (s t : List ℕ) → Opens F (s ++ t) → Alive F s
   alive-opens s t o =

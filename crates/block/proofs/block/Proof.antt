@@ -4,14 +4,14 @@ use mathlib.Core.Path.{_≡_, sym, ap, _∙_, subst}
 use mathlib.Core.List.{List}
 use borrow.Author.Needs.{needs}
 use lib.ListN.{length, drop}
-use Rattle.exact.specs.Claim.{Verdict, accepted}
+use Rattle.exact.specs.Claim.{Verdict, accepted, more, refused}
 use Rattle.exact.specs.Field.{Exact, shift}
 use Rattle.exact.specs.Parser.{Parser, _then_}
 use Rattle.exact.specs.Told.{told}
 use Rattle.exact.specs.declared.Scan.{Scan}
 use Rattle.header.specs.Header.{Header}
 use Rattle.fields.specs.BlockFields.{signatureField, command, commandRest}
-use Rattle.answer.specs.StageLaws.{sees-as, first-more, first-refused, first-accepted}
+use Rattle.answer.specs.StageLaws.{sees-as, as-first}
 use Rattle.block.proofs.block.Statement.{statement}
 use Rattle.block.proofs.block.Tie as tie
 
@@ -36,18 +36,18 @@ module _ (c : tie.After-literal) where
 returns : tie.Need-returns
 returns c =
     let ran = c .before .before .before in
-    first-more signatureField rest (text ran) (found ran _ (c .before .enum-told .given .1)) (c .more .ensures (text ran))
+    as-first signatureField rest more (found ran _ (c .before .enum-told .given .1)) (c .more .ensures (text ran))
 
 returns-2 : tie.Need-returns-2
 returns-2 c =
     let ran = c .before .before .before .before in
-    first-refused signatureField rest (text ran) 1 _ (found ran _ (c .before .before .place .given .1)) (c .refused .ensures (text ran))
+    as-first signatureField rest (refused 1 _) (found ran _ (c .before .before .place .given .1)) (c .refused .ensures (text ran))
 
 returns-3 : tie.Need-returns-3
 returns-3 c =
     let ran = c .before .before .before in
     let whole = found ran _ (c .before .enum-told2 .given .1) in
-    first-accepted signatureField rest (text ran) _ _ whole
+    as-first signatureField rest (accepted _ _) whole
     (sees-as (c .command .ensures) (ap (λ (n : ℕ). shift n (rest 0 .verdict (drop n (text ran)))) (sym (twelve (text ran) _ _ whole))))
 
 pub block-spec : {M : Type 1} → statement M

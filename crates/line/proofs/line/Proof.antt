@@ -2,12 +2,12 @@
 use Prim.Native.Nat.{ℕ}
 use mathlib.Core.Path.{_≡_, sym, ap, _∙_}
 use mathlib.Core.List.{List}
-use Rattle.exact.specs.Claim.{accepted}
+use Rattle.exact.specs.Claim.{accepted, more, refused}
 use Rattle.exact.specs.Parser.{reach-le}
 use Rattle.exact.specs.Told.{told}
 use Rattle.exact.specs.declared.Scan.{Scan}
 use Rattle.fields.specs.LineFields.{proxyWord}
-use Rattle.answer.specs.StageLaws.{first-more, first-refused, first-accepted}
+use Rattle.answer.specs.StageLaws.{as-first}
 use Rattle.line.specs.Choices.{words}
 use borrow.Author.Needs.{needs}
 use Rattle.line.proofs.line.Statement.{statement}
@@ -24,13 +24,13 @@ from-word-requires : tie.Need-from-word-requires
 from-word-requires c κs = let ran = c .before .before .before in reach-le proxyWord (text ran) (accepted _ _) (found ran _ (c .before .n .given .1))
 
 returns : tie.Need-returns
-returns c = let ran = c .before .before .before in first-more proxyWord (λ x. words) (text ran) (found ran _ (c .before .enum-told .given .1)) (c .more .ensures (text ran))
+returns c = let ran = c .before .before .before in as-first proxyWord (λ x. words) more (found ran _ (c .before .enum-told .given .1)) (c .more .ensures (text ran))
 
 returns-2 : tie.Need-returns-2
-returns-2 c = let ran = c .before .before .before .before in first-refused proxyWord (λ x. words) (text ran) 1 _ (found ran _ (c .before .before .place .given .1)) (c .refused .ensures (text ran))
+returns-2 c = let ran = c .before .before .before .before in as-first proxyWord (λ x. words) (refused 1 _) (found ran _ (c .before .before .place .given .1)) (c .refused .ensures (text ran))
 
 returns-3 : tie.Need-returns-3
-returns-3 c = let ran = c .before .before .before .before in first-accepted proxyWord (λ x. words) (text ran) _ _ (found ran _ (c .before .before .n .given .1)) (c .from-word .ensures)
+returns-3 c = let ran = c .before .before .before .before in as-first proxyWord (λ x. words) (accepted _ _) (found ran _ (c .before .before .n .given .1)) (c .from-word .ensures)
 
 pub line-spec : {M : Type 1} → statement M
 line-spec =
