@@ -11,6 +11,7 @@ use Rattle.exact.specs.Claim as Claim
 use Rattle.exact.specs.Pick.{pick}
 use Rattle.record.specs.declared.Kind.{Kind}
 use Rattle.record.specs.declared.Record.{Record}
+use Rattle.record.specs.Kinds.{blockLength}
 use Rattle.record.specs.AddressBlock.{blockRecord}
 use Rattle.header.specs.Header.{Header}
 use Rattle.answer.specs.declared.Verdict.{Verdict}
@@ -20,7 +21,7 @@ use Rattle.answer.specs.declared.Caller.{Caller}
 use Rattle.answer.specs.declared.Seen.{Seen}
 use Rattle.answer.specs.Sight.{callerRecord, inBytes, recordBy, readingOf}
 use Rattle.answer.specs.Answers.{Answers, toldVerdict, bareUnless}
-use Rattle.reader.specs.Area.{areaBy, blockEnd, areaStart, areaEnd}
+use Rattle.reader.specs.Area.{areaBy, areaStart, areaEnd}
 use Rattle.reader.specs.AreaLaws.{area-inside, area-part}
 use Rattle.interface.specs.declared.numbers.Told.{Told}
 use Rattle.interface.specs.Buffers.{over, toldIn, numbersSize}
@@ -45,7 +46,7 @@ end-by n size true false = omega arith
 end-by n size false c = omega arith
 
 pub end-within-header : (kind : Kind) (size n v : ℕ) → areaEnd (Accepted n v) kind size ≤ n
-end-within-header kind size n v = end-by n size (eqb v 2) (eqb (blockEnd kind) 0)
+end-within-header kind size n v = end-by n size (eqb v 2) (eqb (blockLength kind) 0)
 
 area-length : (w : Verdict) (kind : Kind) (s : List ℕ) → length (areaBy w kind s) ≡ areaEnd w kind (length s) - areaStart w kind (length s)
 area-length w kind s =

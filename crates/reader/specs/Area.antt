@@ -5,7 +5,6 @@ use lib.Dec.{eqb}
 use lib.ListN.{take}
 use Rattle.exact.specs.Pick.{pick}
 use Rattle.record.specs.declared.Kind.{Kind}
-use Rattle.record.specs.declared.Kind.the-variants.{Local, Unspecified, Ip4, Ip6, Unix}
 use Rattle.record.specs.Kinds.{blockLength}
 use Rattle.answer.specs.declared.Verdict.{Verdict}
 use Rattle.answer.specs.declared.Verdict.the-variants.{Accepted, More, Refused}
@@ -21,19 +20,11 @@ areaBy (Refused k p) kind s = []
 abbrev pub readArea : Reading → List ℕ → List ℕ
 readArea r s = areaBy (r .verdict) (r .record .kind) s
 
--- "from 16 + A": where the address block ends; 0 for a kind without addresses
-abbrev pub blockEnd : Kind → ℕ
-blockEnd Local = 0
-blockEnd Unspecified = 0
-blockEnd (Ip4 t) = 16 + blockLength (Ip4 t)
-blockEnd (Ip6 t) = 16 + blockLength (Ip6 t)
-blockEnd (Unix t) = 16 + blockLength (Unix t)
-
--- where the area ends, and where it starts, in size bytes read
+-- where the area ends, and where it starts, "from 16 + A", in size bytes read; local and unspecified have no addresses
 abbrev pub areaEnd : Verdict → Kind → ℕ → ℕ
-areaEnd (Accepted n v) kind size = pick (eqb v 2) (pick (eqb (blockEnd kind) 0) 0 (min n size)) 0
+areaEnd (Accepted n v) kind size = pick (eqb v 2) (pick (eqb (blockLength kind) 0) 0 (min n size)) 0
 areaEnd More kind size = 0
 areaEnd (Refused k p) kind size = 0
 
 abbrev pub areaStart : Verdict → Kind → ℕ → ℕ
-areaStart v kind size = min (blockEnd kind) (areaEnd v kind size)
+areaStart v kind size = min (16 + blockLength kind) (areaEnd v kind size)

@@ -11,6 +11,7 @@ use line::line;
 use record::Kind;
 use record::Record;
 use record::addresses_of;
+use record::block_length;
 use record::record_from;
 ghost use mathlib.Core.Path.{_≡_};
 ghost use Prim.Native.Nat.{_+_};
@@ -18,7 +19,7 @@ ghost use lib.ListN.{length};
 ghost use Rattle.fields.specs.Exactness.{verdict as verdictOn};
 ghost use Rattle.answer.specs.Sight.{inBytes, recordBy, readingOf, callerBy};
 ghost use Rattle.reader.specs.Read.{Reads};
-ghost use Rattle.reader.specs.Area.{blockEnd, areaStart, areaEnd, readArea};
+ghost use Rattle.reader.specs.Area.{areaStart, areaEnd, readArea};
 
 // What is seen in the bytes so far: demand 3 of document 01, for every s, before a record is made. The caller is the
 // verdict's, down to the bytes that no address uses.
@@ -86,19 +87,6 @@ pub struct Span {
     pub end: usize,
 }
 
-// Where a kind's address block ends in a header; 0 for a kind without addresses.
-fn block_end(kind: Kind) -> usize
-    ensures { λ r. ⌜ r ≡ blockEnd kind ⌝ }
-{
-    match kind {
-        Kind::Local => 0,
-        Kind::Unspecified => 0,
-        Kind::Ip4(_) => 28,
-        Kind::Ip6(_) => 52,
-        Kind::Unix(_) => 232,
-    }
-}
-
 // Where the TLV area lies in the bytes read, of which there are size, by the verdict on them and the kind.
 pub fn area_span(verdict: Verdict, kind: Kind, size: usize) -> Span
     ensures { λ r. ⌜ (r .start ≡ areaStart verdict kind size) × (r .end ≡ areaEnd verdict kind size) ⌝ }
@@ -106,13 +94,13 @@ pub fn area_span(verdict: Verdict, kind: Kind, size: usize) -> Span
     match verdict {
         Verdict::Accepted { length, version } => {
             if version == 2 {
-                let head = block_end(kind);
-                if head == 0 {
+                let block = block_length(kind);
+                if block == 0 {
                     Span { start: 0, end: 0 }
                 } else {
                     let end = least(length, size);
                     Span {
-                        start: least(head, end),
+                        start: least(16 + block, end),
                         end,
                     }
                 }

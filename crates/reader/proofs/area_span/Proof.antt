@@ -1,6 +1,8 @@
 -- The span of each case is the definition's.
 use mathlib.Core.Path.{refl, sym, ap, _∙_}
-use Prim.Native.Nat.{ℕ, min}
+use Prim.Native.Nat.{ℕ, _+_, min}
+use native.Mathlib.Omega.{arith}
+use Rattle.fields.specs.BlockFields.{block-small}
 use Rattle.reader.specs.AreaLaws.{span-none, old-version, no-block, span-some}
 use borrow.Author.Needs.{needs}
 use Rattle.reader.proofs.area_span.Statement.{statement}
@@ -11,15 +13,19 @@ returns c =
     let told = c .before .before .before .before in
     let x = told .before .before .args in
     span-none (x .verdict) (x .kind) (x .size) _ (told .verdict .given .1)
-    (no-block (x .kind) (x .size) _ _ (c .before .before .if1 .taken) (sym (c .before .block-end .ensures) ∙ c .if2 .taken))
+    (no-block (x .kind) (x .size) _ _ (c .before .before .if1 .taken) (sym (c .before .block-length .ensures) ∙ c .if2 .taken))
+
+add-least : tie.Need-add-least
+add-least c =
+    omega (arith, block-small (c .before .before .before .before .before .before .before .args .kind), c .before .before .block-length .ensures)
 
 returns-2 : tie.Need-returns-2
 returns-2 c =
     let told = c .before .before .before .before .before .before in
     let x = told .before .before .args in
     span-some (x .verdict) (x .kind) (x .size) _ _ _ _ (told .verdict .given .1) (c .before .before .before .before .if1 .taken)
-    (λ z. c .before .before .if2 .left (c .before .before .before .block-end .ensures ∙ z)) (c .before .least .ensures)
-    (c .least2 .ensures ∙ ap (λ (m : ℕ). min m (c .before .least .result)) (c .before .before .before .block-end .ensures))
+    (λ z. c .before .before .if2 .left (c .before .before .before .block-length .ensures ∙ z)) (c .before .least .ensures)
+    (c .least2 .ensures ∙ ap (λ (m : ℕ). min (16 + m) (c .before .least .result)) (c .before .before .before .block-length .ensures))
 
 returns-3 : tie.Need-returns-3
 returns-3 c =
@@ -40,6 +46,7 @@ area-span-spec =
     (λ c. search needs)
     (λ c κs. search needs)
     (λ c κs. search needs)
+    add-least
     (λ c κs. search needs)
     (λ c. search needs)
     (λ c. search needs)
