@@ -14,13 +14,14 @@ use Rattle.exact.specs.Machine.{Move, dead, run, moved}
 use Rattle.exact.specs.Parser.{just, spell}
 use Rattle.exact.specs.Pick.{pick}
 use Rattle.exact.specs.Byte.{stepByte, found, stepCount, counted, countVerdict}
+use Rattle.exact.specs.Network.{numberAt}
 use Rattle.exact.specs.Number.{any, low}
 use Rattle.tlv.specs.Region.{judge, step, typeByte}
 use Rattle.record.specs.declared.Kind.{Kind}
 use Rattle.record.specs.declared.Kind.the-variants.{Local, Unspecified, Ip4, Ip6, Unix}
 use Rattle.record.specs.Kinds.{portLength}
 use Rattle.fields.specs.BlockFields.{always, fits, port, area, tlvs}
-use Rattle.block.specs.Parts.{numberAt, portAt}
+use Rattle.block.specs.Parts.{portAt}
 use Rattle.block.specs.Takes.{Short, Takes, next, next-full, then-short}
 
 -- ── no bytes ──
@@ -64,16 +65,16 @@ module _ (good : ℕ → Bool) (k : ℕ) where
   last false h n rest = refl
 
   -- where the rule says x of the number
-  pub number-full : (x : Bool) (t : List ℕ) → AllBytes t → 2 ≤ length t → good (numberAt t) ≡ x
-      → number t ≡ pick x (accepted (numberAt t) 2) (refused k 1)
+  pub number-full : (x : Bool) (t : List ℕ) → AllBytes t → 2 ≤ length t → good (numberAt t 0) ≡ x
+      → number t ≡ pick x (accepted (numberAt t 0) 2) (refused k 1)
   number-full x [] b h g = absurd (omega arith)
   number-full x (c ∷ []) b h g = absurd (omega arith)
   number-full x (c ∷ d ∷ t) b h g =
       next-full _ lowByte 1 _ (takes-byte k) (c ∷ d ∷ t) b (omega arith)
-      ∙ ap (shift 1) (byte-full (low good c) k (pick x (some (numberAt (c ∷ d ∷ t))) none) (d ∷ t) (b .1) (omega arith) (simp g))
-      ∙ last x c (numberAt (c ∷ d ∷ t)) _
+      ∙ ap (shift 1) (byte-full (low good c) k (pick x (some (numberAt (c ∷ d ∷ t) 0)) none) (d ∷ t) (b .1) (omega arith) (simp g))
+      ∙ last x c (numberAt (c ∷ d ∷ t) 0) _
 
-pub takes-number : (k : ℕ) → Takes (number always k) 2 numberAt
+pub takes-number : (k : ℕ) → Takes (number always k) 2 (λ t. numberAt t 0)
 takes-number k = record { short = number-short always k; full = λ t b h. number-full always k true t b h refl }
 
 pub takes-port : (kind : Kind) → Takes (port kind .verdict) (portLength kind) (portAt (portLength kind))

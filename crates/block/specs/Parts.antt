@@ -1,26 +1,23 @@
 -- For proofs. The parts of a block as the stages read them, in the terms of the record's definitions.
 use mathlib.Core.Path.{_≡_, refl, sym, ap, ap₂, _∙_}
 use mathlib.Core.List.{List}
-use Prim.Native.Nat.{ℕ, zero, suc, _+_, _*_}
+use Prim.Native.Nat.{ℕ, zero, suc, _+_}
 use native.Mathlib.Omega.{arith}
 use lib.ListN.{getD, take, drop}
 use lib.Seq.{getD-drop, drop-drop}
+use Rattle.exact.specs.Network.{number, numberAt}
 use Rattle.record.specs.declared.Kind.{Kind}
 use Rattle.record.specs.declared.Kind.the-variants.{Local, Unspecified, Ip4, Ip6, Unix}
 use Rattle.record.specs.declared.Record.{Record}
 use Rattle.record.specs.Kinds.{addressLength, portLength}
 use Rattle.record.specs.Records.{recordOf}
-use Rattle.record.specs.AddressBlock.{numberAt as numberIn, portAt as portIn, blockRecord}
-
--- the number that t begins with: "high byte first"
-abbrev pub numberAt : List ℕ → ℕ
-numberAt t = numberIn t 0
+use Rattle.record.specs.AddressBlock.{portAt as portIn, blockRecord}
 
 -- the port that t begins with, of n bytes; "UNIX has no ports"
 abbrev pub portAt : ℕ → List ℕ → ℕ
 portAt zero t = 0
 portAt (suc zero) t = 0
-portAt (suc (suc n)) t = numberAt t
+portAt (suc (suc n)) t = numberAt t 0
 
 -- "The address block is source, destination, source port, destination port", from a place on
 abbrev pub recordAt : Kind → ℕ → List ℕ → Record
@@ -30,10 +27,10 @@ recordAt k at s =
     (portAt (portLength k) (drop (at + addressLength k + addressLength k + portLength k) s))
 
 -- ── what stands at a place begins the bytes from there on ──
-pub number-at : (s : List ℕ) (i : ℕ) → numberIn s i ≡ numberAt (drop i s)
+pub number-at : (s : List ℕ) (i : ℕ) → numberAt s i ≡ numberAt (drop i s) 0
 number-at s i =
     let here : i + 0 ≡ i = omega arith in
-    sym (ap₂ (λ (h l : ℕ). h * 256 + l) (getD-drop i s 0 0 ∙ ap (λ (j : ℕ). getD s j 0) here) (getD-drop i s 1 0))
+    sym (ap₂ number (getD-drop i s 0 0 ∙ ap (λ (j : ℕ). getD s j 0) here) (getD-drop i s 1 0))
 
 port-at : (k : Kind) (s : List ℕ) (i : ℕ) → portIn k s i ≡ portAt (portLength k) (drop i s)
 port-at Local s i = refl

@@ -1,17 +1,18 @@
 -- For proofs. The verdict on a block that is not looked at: its length decides.
-use mathlib.Core.Path.{_≡_, sym, _∙_}
+use mathlib.Core.Path.{_≡_, sym, ap, _∙_}
 use mathlib.Core.List.{List, []}
 use Prim.Native.Nat.{ℕ, _+_, _≤_, _<_}
 use native.Mathlib.Omega.{arith}
 use lib.ListN.{length, drop}
 use Rattle.exact.specs.Claim.{Verdict, accepted, more, AllBytes}
 use Rattle.exact.specs.Field.{shift}
+use Rattle.exact.specs.Network.{numberAt}
 use Rattle.exact.specs.Parser.{just, _then_}
 use Rattle.exact.specs.Byte.{count, countVerdict}
 use Rattle.record.specs.declared.Record.{Record}
 use Rattle.header.specs.Header.{Header}
 use Rattle.fields.specs.BlockFields.{blocked, anyLength, skipped}
-use Rattle.block.specs.Parts.{numberAt}
+use Rattle.block.specs.Parts.{number-at}
 use Rattle.block.specs.Takes.{Short, next-short, then-at, short-at}
 use Rattle.block.specs.Leaves.{takes-number, takes-count}
 
@@ -29,10 +30,12 @@ module _ (r : Record) (s : List ℕ) (b : AllBytes s) where
   rest n t = (count 9 n then λ u. just (blocked r [])) .verdict t
 
   abbrev size : ℕ
-  size = numberAt (drop 14 s)
+  size = numberAt s 14
 
   behind : 16 ≤ length s → said ≡ shift 16 (rest size (drop 16 s))
-  behind h = then-at (anyLength .verdict) rest 2 numberAt (takes-number 8) s b 14 h
+  behind h =
+      then-at (anyLength .verdict) rest 2 (λ t. numberAt t 0) (takes-number 8) s b 14 h
+      ∙ ap (λ (n : ℕ). shift 16 (rest n (drop 16 s))) (sym (number-at s 14))
 
   pub skipped-head : length s < 16 → more ≡ said
   skipped-head h = short-at (skipped r .verdict) 2 (skipped-two r) s b 14 (omega arith)

@@ -8,6 +8,7 @@ use answer::of_kind;
 use answer::refused;
 use exact::Scan;
 use exact::literal;
+use exact::number;
 use record::Family;
 use record::Kind;
 use record::block_length;
@@ -16,8 +17,8 @@ use tlv::region;
 ghost use mathlib.Core.Path.{_≡_};
 ghost use mathlib.Core.Bool.{true};
 ghost use mathlib.Core.List.{List};
-ghost use Prim.Native.Nat.{ℕ, _+_, _≤_};
-ghost use lib.ListN.{length, drop, take};
+ghost use Prim.Native.Nat.{ℕ};
+ghost use lib.ListN.{drop, take};
 ghost use Rattle.exact.specs.Claim.{accepted as acceptedOf};
 ghost use Rattle.exact.specs.Field.{shift};
 ghost use Rattle.exact.specs.Parser.{_then_};
@@ -27,17 +28,6 @@ ghost use Rattle.fields.specs.BlockFields.{blocked, block as blockField, comman
 ghost use Rattle.record.specs.AddressBlock.{blockRecord};
 ghost use Rattle.answer.specs.Answers.{areaOf};
 ghost use Rattle.answer.specs.Sight.{Sees};
-ghost use Rattle.block.specs.Parts.{numberAt};
-
-// The number at a place, high byte first.
-fn number(s: &[u8], at: usize) -> u16
-    requires { ⌜ at + 2 ≤ length (now s) ⌝ }
-    ensures { λ r. ⌜ r ≡ numberAt (drop at (now (s .entry))) ⌝ }
-{
-    let high = s[at] as u16;
-    let low = s[at + 1] as u16;
-    high * 256 + low
-}
 
 // "L must be A, or at least A + 3."
 fn fits(size: usize, kind: Kind) -> bool
@@ -71,7 +61,7 @@ fn skipped(s: &[u8], kind: Kind) -> Seen
     if s.len() < 16 {
         return more();
     }
-    let end = 16 + (number(s, 14) as usize);
+    let end = 16 + (number(s[14], s[15]) as usize);
     if s.len() < end {
         return more();
     }
@@ -103,7 +93,7 @@ fn addressed(s: &[u8], kind: Kind) -> Seen
     if s.len() < 16 {
         return more();
     }
-    let size = number(s, 14) as usize;
+    let size = number(s[14], s[15]) as usize;
     if fits(size, kind) {
         addresses(s, kind, size)
     } else {

@@ -4,12 +4,12 @@ use mathlib.Core.Bool.{Bool, true, false}
 use mathlib.Core.List.{List, [], _∷_, _++_}
 use mathlib.Core.Logic.{inl, inr}
 use mathlib.Core.Option.{Option, some, none}
-use Prim.Native.Nat.{ℕ, _+_, _*_, _/_, _%_, _<_}
+use Prim.Native.Nat.{ℕ, _/_, _%_, _<_}
 use native.Mathlib.Omega.{arith}
 use Rattle.exact.specs.Field.{Opens}
 use Rattle.exact.specs.Machine.{leaf}
 use Rattle.exact.specs.Pick.{pick}
-use Rattle.exact.specs.Network.{network}
+use Rattle.exact.specs.Network.{network, number}
 use Rattle.exact.specs.Parser.{Parser, _then_, recast}
 use Rattle.exact.specs.Byte.{oneByte}
 
@@ -22,24 +22,24 @@ abbrev pub any : ℕ → Option ℕ
 any c = some c
 
 abbrev pub low : (ℕ → Bool) → ℕ → ℕ → Option ℕ
-low good h c = pick (good (h * 256 + c)) (some (h * 256 + c)) none
+low good h c = pick (good (number h c)) (some (number h c)) none
 
 module _ (good : ℕ → Bool) where
-  low-some : (h c : ℕ) (b : Bool) → good (h * 256 + c) ≡ b → (n : ℕ) → pick b (some (h * 256 + c)) none ≡ some n → (n ≡ h * 256 + c) × (b ≡ true)
+  low-some : (h c : ℕ) (b : Bool) → good (number h c) ≡ b → (n : ℕ) → pick b (some (number h c)) none ≡ some n → (n ≡ number h c) × (b ≡ true)
   low-some h c true e n s = (cc, refl)
   low-some h c false e n s = (let z : _≡_ {A = ℕ} 0 1 = cc in absurd (omega arith), let z : _≡_ {A = ℕ} 0 1 = cc in absurd (omega arith))
 
-  pub some-low : (h c : ℕ) (b : Bool) → b ≡ true → pick b (some (h * 256 + c)) none ≡ some (h * 256 + c)
+  pub some-low : (h c : ℕ) (b : Bool) → b ≡ true → pick b (some (number h c)) none ≡ some (number h c)
   some-low h c b e = rw e
 
-  module _ (k : ℕ) (opens : (h : ℕ) → (c : ℕ) × (c < 256) × (good (h * 256 + c) ≡ true)) where
+  module _ (k : ℕ) (opens : (h : ℕ) → (c : ℕ) × (c < 256) × (good (number h c) ≡ true)) where
     abbrev pub high-byte : Parser ℕ
     high-byte = oneByte any k 0 0 (omega arith) refl
 
     abbrev pub low-byte : ℕ → Parser ℕ
     low-byte h =
         let o = opens h in
-        oneByte (low good h) k (o .0) (h * 256 + o .0) (o .1) (some-low h (o .0) (good (h * 256 + o .0)) (o .2))
+        oneByte (low good h) k (o .0) (number h (o .0)) (o .1) (some-low h (o .0) (good (number h (o .0))) (o .2))
 
     abbrev pub both : Parser ℕ
     both = high-byte then low-byte
@@ -51,7 +51,7 @@ module _ (good : ℕ → Bool) where
         let xs = x .split in
         let ys = y .split in
         let h : x .byte ≡ l .mid = let v = x .value in cc in
-        let q = low-some (l .mid) (y .byte) (good (l .mid * 256 + y .byte)) refl n (y .value) in
+        let q = low-some (l .mid) (y .byte) (good (number (l .mid) (y .byte))) refl n (y .value) in
         let small-h = x .small in
         let small-l = y .small in
         let sum = q .0 in
@@ -65,7 +65,7 @@ module _ (good : ℕ → Bool) where
     pub from-number : (f : List ℕ) (n : ℕ) → Number good f n → both .field .lang f n
     from-number f n l =
         let small-n = l .small in
-        let whole : n / 256 * 256 + n % 256 ≡ n = omega arith in
+        let whole : number (n / 256) (n % 256) ≡ n = omega arith in
         record {
           front = n / 256 ∷ [];
           back = n % 256 ∷ [];
@@ -77,7 +77,7 @@ module _ (good : ℕ → Bool) where
             split = refl;
             small = omega arith;
             value =
-                some-low (n / 256) (n % 256) (good (n / 256 * 256 + n % 256)) (subst (λ (m : ℕ). good m ≡ true) (sym whole) (l .fits))
+                some-low (n / 256) (n % 256) (good (number (n / 256) (n % 256))) (subst (λ (m : ℕ). good m ≡ true) (sym whole) (l .fits))
                 ∙ ap some whole;
           };
         }

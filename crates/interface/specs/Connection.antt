@@ -4,12 +4,11 @@ use mathlib.Core.Option.{Option, some, none}
 use Prim.Native.Nat.{ℕ}
 use lib.Dec.{eqb}
 use lib.ListN.{length, take, drop, getD}
-use Rattle.exact.specs.Network.{network}
+use Rattle.exact.specs.Network.{network, numberAt}
 use Rattle.exact.specs.Pick.{pick}
 use Rattle.record.specs.declared.Kind.{Kind}
 use Rattle.record.specs.declared.Kind.the-variants.{Unspecified}
 use Rattle.record.specs.declared.Record.{Record}
-use Rattle.record.specs.AddressBlock.{numberAt}
 use Rattle.record.specs.Records.{recordWith, bare}
 use Rattle.store.specs.Stored.{codeOf, kindOf}
 use Rattle.interface.specs.declared.connection.Asked.{Asked}

@@ -1,6 +1,7 @@
 // A connection: the stored form's kind code, two addresses of 108 bytes, and two ports, high byte first.
 use crate::CONNECTION;
 use answer::Seen;
+use exact::number;
 use lent::behind;
 use lent::front;
 use reader::in_bytes;
@@ -15,7 +16,7 @@ use record::source_port_of;
 use store::code_of;
 use store::kind_of;
 ghost use mathlib.Core.Path.{_≡_};
-ghost use Prim.Native.Nat.{_+_, _*_, _≤_};
+ghost use Prim.Native.Nat.{_+_, _≤_};
 ghost use lib.ListN.{length, take, drop};
 ghost use Rattle.record.specs.Records.{held, recordOf};
 ghost use Rattle.lent.specs.Placed.{placed};
@@ -124,13 +125,6 @@ fn address_at(bytes: &[u8], at: usize) -> [u8; 108]
     held
 }
 
-// A port of two bytes, high byte first.
-fn port(high: u8, low: u8) -> u16
-    ensures { λ r. ⌜ r ≡ high * 256 + low ⌝ }
-{
-    high as u16 * 256 + low as u16
-}
-
 // The record of a connection of this kind.
 fn connection_of(kind: Kind, bytes: &[u8]) -> Record
     requires { ⌜ length (now bytes) ≡ connectionSize ⌝ }
@@ -142,8 +136,8 @@ fn connection_of(kind: Kind, bytes: &[u8]) -> Record
         kind,
         source,
         destination,
-        port(bytes[217], bytes[218]),
-        port(bytes[219], bytes[220]),
+        number(bytes[217], bytes[218]),
+        number(bytes[219], bytes[220]),
     )
 }
 

@@ -1,9 +1,10 @@
 -- Addresses as the version 1 writer writes them (document 01, "The text line").
 use mathlib.Core.Bool.{Bool}
 use mathlib.Core.List.{List, [], _∷_}
-use Prim.Native.Nat.{ℕ, _+_, _*_}
+use Prim.Native.Nat.{ℕ}
 use lib.ListN.{take}
 use Rattle.exact.specs.Ascii.{ascii}
+use Rattle.exact.specs.Network.{number}
 use Rattle.exact.specs.Pick.{pick}
 use Rattle.draft.specs.Numeral.{decimalText, hexText, joined}
 
@@ -19,7 +20,7 @@ groupsText groups = joined (ascii ":") hexText groups
 abbrev pub groupsOf : List ℕ → List ℕ
 groupsOf [] = []
 groupsOf (h ∷ []) = []
-groupsOf (h ∷ l ∷ bytes) = (h * 256 + l) ∷ groupsOf bytes
+groupsOf (h ∷ l ∷ bytes) = number h l ∷ groupsOf bytes
 
 -- the address at the front of a record's array
 abbrev pub ip4Text : List ℕ → List ℕ

@@ -2,12 +2,13 @@
 use mathlib.Core.Path.{_≡_, refl, ap₂, _∙_}
 use mathlib.Core.List.{List, [], _∷_, append-assoc}
 use mathlib.Core.Logic.{inl}
-use Prim.Native.Nat.{ℕ, suc, zero, _+_, _*_, _-_, _/_, _%_, _≤_, _<_}
+use Prim.Native.Nat.{ℕ, suc, zero, _+_, _-_, _/_, _%_, _≤_, _<_}
 use native.Mathlib.Omega.{arith}
 use lib.Dec.{ltb}
 use lib.ListN.{length}
 use borrow.Author.Tests.{ltb-true, ltb-false}
 use Rattle.exact.specs.Claim.{AllBytes}
+use Rattle.exact.specs.Network.{number as numberOf}
 use Rattle.exact.specs.Pick.{pick-by}
 use Rattle.text.specs.Decimal.{Plain}
 use Rattle.text.specs.Ip4.{Address as Ip4Address}
@@ -91,8 +92,8 @@ groups-bytes (suc n) (h ∷ l ∷ bytes) size small =
     let high = small .0 in
     let low = small .1 .0 in
     let rest = groups-bytes n bytes (omega arith) (small .1 .1) in
-    let a : h ≡ (h * 256 + l) / 256 = omega arith in
-    let b : l ≡ (h * 256 + l) % 256 = omega arith in
+    let a : h ≡ numberOf h l / 256 = omega arith in
+    let b : l ≡ numberOf h l % 256 = omega arith in
     ((omega arith, rest .0), ap₂ (λ (x : ℕ) (t : List ℕ). x ∷ t) a (ap₂ (λ (x : ℕ) (t : List ℕ). x ∷ t) b (rest .1)))
 
 -- the sixteen bytes of an address

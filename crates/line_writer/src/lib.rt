@@ -9,6 +9,7 @@ use draft::push_decimal;
 use draft::push_decimals;
 use draft::push_hexes;
 use draft::push_word;
+use exact::number;
 use lent::put;
 use record::Kind;
 use record::Record;
@@ -16,7 +17,6 @@ use record::Transport;
 use record::clean;
 ghost use mathlib.Core.Path.{_≡_};
 ghost use mathlib.Core.List.{[]};
-ghost use Prim.Native.Nat.{_+_, _*_};
 ghost use lib.ListN.{length, take};
 ghost use Rattle.draft.specs.Drafts.{draftOf, appended};
 ghost use Rattle.answer.specs.Answers.{toldWritten, outputAfter};
@@ -52,13 +52,6 @@ fn octets_of(held: [u8; 108]) -> [u16; 4]
     [wide(held[0]), wide(held[1]), wide(held[2]), wide(held[3])]
 }
 
-// A group of two bytes, in network order.
-fn group(high: u8, low: u8) -> u16
-    ensures { λ r. ⌜ r ≡ high * 256 + low ⌝ }
-{
-    high as u16 * 256 + low as u16
-}
-
 // The groups of the IPv6 address that a record holds.
 fn groups_of(held: [u8; 108]) -> [u16; 8]
     ensures { λ r. ⌜ r ≡ groupsOf (take 16 held) ⌝ }
@@ -66,7 +59,7 @@ fn groups_of(held: [u8; 108]) -> [u16; 8]
     let mut groups = [0u16; 8];
     let mut i: usize = 0;
     while i < 8 {
-        groups[i] = group(held[i + i], held[i + i + 1]);
+        groups[i] = number(held[i + i], held[i + i + 1]);
         i += 1;
     }
     groups

@@ -1,8 +1,8 @@
 -- The address block of a record, and the record of an address block (document 01, "The binary block").
 use mathlib.Core.List.{List, _++_}
-use Prim.Native.Nat.{ℕ, _+_, _*_}
-use lib.ListN.{take, drop, getD}
-use Rattle.exact.specs.Network.{network}
+use Prim.Native.Nat.{ℕ, _+_}
+use lib.ListN.{take, drop}
+use Rattle.exact.specs.Network.{network, numberAt}
 use Rattle.record.specs.declared.Kind.{Kind}
 use Rattle.record.specs.declared.Kind.the-variants.{Local, Unspecified, Ip4, Ip6, Unix}
 use Rattle.record.specs.declared.Record.{Record}
@@ -16,10 +16,6 @@ addressBlock r =
     ++ take (addressLength (r .kind)) (r .destination)
     ++ take (portLength (r .kind)) (network (r .«source_port»))
     ++ take (portLength (r .kind)) (network (r .«destination_port»))
-
--- two bytes in network order
-abbrev pub numberAt : List ℕ → ℕ → ℕ
-numberAt b i = getD b i 0 * 256 + getD b (i + 1) 0
 
 -- "UNIX has no ports"
 abbrev pub portAt : Kind → List ℕ → ℕ → ℕ

@@ -7,7 +7,7 @@ use native.Mathlib.Omega.{arith}
 use lib.ListN.{length, take, drop, getD, replicate, length-append, length-drop, take-append-drop}
 use lib.Seq.{length-take-le, take-at, drop-at, take-add, take-length, drop-cons, getD-append-add}
 use Rattle.exact.specs.Claim.{AllBytes}
-use Rattle.exact.specs.Network.{network}
+use Rattle.exact.specs.Network.{network, numberAt}
 use Rattle.exact.specs.Byte.{zeros}
 use Rattle.exact.specs.Parser.{bytes-append, bytes-take, bytes-drop}
 use Rattle.record.specs.declared.Kind.{Kind}
@@ -17,7 +17,7 @@ use Rattle.record.specs.Kinds.{addressLength, portLength, blockLength}
 use Rattle.record.specs.RecordLaws.{same-record}
 use Rattle.record.specs.HeldLaws.{held-length}
 use Rattle.record.specs.Records.{held, recordOf, PortFits, Clean, Sized}
-use Rattle.record.specs.AddressBlock.{addressBlock, numberAt, portAt, blockRecord}
+use Rattle.record.specs.AddressBlock.{addressBlock, portAt, blockRecord}
 
 -- ── lengths ──
 pub address-fits : (k : Kind) → addressLength k ≤ 108

@@ -4,14 +4,16 @@ use crate::Record;
 use crate::address_length;
 use crate::port_length;
 use crate::record_with;
+use exact::number;
 use lent::behind;
 use lent::least;
 ghost use mathlib.Core.Path.{_≡_};
 ghost use Prim.Native.Nat.{_+_, _≤_};
 ghost use lib.ListN.{take, getD};
+ghost use Rattle.exact.specs.Network.{numberAt};
 ghost use Rattle.record.specs.Kinds.{addressLength, portLength};
 ghost use Rattle.record.specs.Records.{held as heldOf, recordOf};
-ghost use Rattle.record.specs.AddressBlock.{numberAt, portAt, blockRecord};
+ghost use Rattle.record.specs.AddressBlock.{portAt, blockRecord};
 
 // The first n bytes, or as many as there are, as a record holds an address.
 fn held(bytes: &[u8], n: usize) -> [u8; 108]
@@ -60,9 +62,7 @@ fn number_at(block: &[u8], at: usize) -> u16
     requires { ⌜ at ≤ 256 ⌝ }
     ensures { λ r. ⌜ r ≡ numberAt (now (block .entry)) at ⌝ }
 {
-    let high = byte_at(block, at) as u16;
-    let low = byte_at(block, at + 1) as u16;
-    high * 256 + low
+    number(byte_at(block, at), byte_at(block, at + 1))
 }
 
 // The port at this place; zero, where the kind has no ports.

@@ -7,11 +7,12 @@ use native.Mathlib.Omega.{arith}
 use borrow.Author.Needs.{needs}
 use lib.ListN.{length, drop, length-drop}
 use Rattle.exact.specs.Claim.{AllBytes, accepted, refused}
+use Rattle.exact.specs.Network.{numberAt}
 use Rattle.record.specs.declared.Kind.{Kind}
 use Rattle.record.specs.Kinds.{blockLength}
 use Rattle.fields.specs.BlockFields.{fits, blockLengthField, addresses, addressed}
 use Rattle.answer.specs.StageLaws.{sees-as, as-refused, as-accepted}
-use Rattle.block.specs.Parts.{numberAt}
+use Rattle.block.specs.Parts.{number-at}
 use Rattle.block.specs.Takes.{bytes-of, bytes-drop, next-short, short-at}
 use Rattle.block.specs.Leaves.{number-short, number-full}
 use Rattle.block.proofs.addressed.Statement.{statement}
@@ -29,17 +30,20 @@ module _ (c : tie.After-shared-slice-known) where
 
 module _ (c : tie.After-fits2) where
   abbrev start : tie.After-shared-slice-known
-  start = c .before .before .before
+  start = c .before .before .before .before .before
 
   abbrev size : ℕ
   size = c .before .number .result
 
   head : 2 ≤ length (drop 14 (text start))
-  head = let left = length-drop 14 (text start) in let h = c .before .before .if1 .left in omega arith
+  head = let left = length-drop 14 (text start) in let h = c .before .before .before .before .if1 .left in omega arith
+
+  number-found : size ≡ numberAt (drop 14 (text start)) 0
+  number-found = c .before .number .ensures ∙ number-at (text start) 14
 
   -- the rule says the same of the number in the bytes
-  judged : (b : Bool) → c .fits2 .result ≡ b → fits (blockLength (kind start)) (numberAt (drop 14 (text start))) ≡ b
-  judged b e = ap (fits (blockLength (kind start))) (sym (c .before .number .ensures)) ∙ sym (c .fits2 .ensures) ∙ e
+  judged : (b : Bool) → c .fits2 .result ≡ b → fits (blockLength (kind start)) (numberAt (drop 14 (text start)) 0) ≡ b
+  judged b e = ap (fits (blockLength (kind start))) (sym number-found) ∙ sym (c .fits2 .ensures) ∙ e
 
 returns : tie.Need-returns
 returns c =
@@ -60,7 +64,7 @@ returns-2 c =
     let s = text (start ran) in
     let k = kind (start ran) in
     as-accepted (blockLengthField k) (addresses k) s 14 (size ran) 2
-    (ap (λ (n : ℕ). accepted n 2) (ran .before .number .ensures)
+    (ap (λ (n : ℕ). accepted n 2) (number-found ran)
     ∙ sym (number-full (fits (blockLength k)) 8 true (drop 14 s) (bytes-drop 14 s (all (start ran))) (head ran) (judged ran true (c .before .if2 .taken))))
     (c .addresses .ensures)
 
@@ -79,6 +83,8 @@ addressed-spec =
     (tie.spec
     (λ c κs. search needs)
     returns
+    (λ c. search needs)
+    (λ c. search needs)
     (λ c κs. search needs)
     (λ c. search needs)
     (λ c κs. search needs)

@@ -7,12 +7,12 @@ use borrow.Author.Needs.{needs}
 use lib.ListN.{length, drop}
 use Rattle.exact.specs.Claim.{AllBytes, accepted}
 use Rattle.exact.specs.Field.{shift}
+use Rattle.exact.specs.Network.{numberAt}
 use Rattle.record.specs.declared.Kind.{Kind}
 use Rattle.record.specs.Records.{bare}
 use Rattle.record.specs.AddressBlock.{blockRecord}
 use Rattle.fields.specs.BlockFields.{blocked}
 use Rattle.answer.specs.StageLaws.{sees-as}
-use Rattle.block.specs.Parts.{numberAt}
 use Rattle.block.specs.Takes.{bytes-of}
 use Rattle.block.specs.KindLaws.{bare-kind}
 use Rattle.block.specs.Accepted.{as-block}
@@ -37,13 +37,13 @@ returns c =
 
 returns-2 : tie.Need-returns-2
 returns-2 c =
-    let ran = c .before .before .before .before in
-    let few : length (text ran) < 16 + numberAt (drop 14 (text ran)) = let size = c .before .before .number .ensures in omega arith in
-    sees-as (c .more2 .ensures (text ran)) (skipped-short (bare (kind ran)) (text ran) (all ran) (c .before .before .before .if1 .left) few)
+    let ran = c .before .before .before .before .before .before in
+    let few : length (text ran) < 16 + numberAt (text ran) 14 = let size = c .before .before .number .ensures in omega arith in
+    sees-as (c .more2 .ensures (text ran)) (skipped-short (bare (kind ran)) (text ran) (all ran) (c .before .before .before .before .before .if1 .left) few)
 
 returns-3 : tie.Need-returns-3
 returns-3 c =
-    let ran = c .before .before .before .before in
+    let ran = c .before .before .before .before .before .before in
     let size = c .before .before .number .ensures in
     let end = 16 + c .before .before .number .result in
     let whole : end ≤ length (text ran) = omega arith in
@@ -59,6 +59,8 @@ skipped-spec =
     (tie.spec
     (λ c κs. search needs)
     returns
+    (λ c. search needs)
+    (λ c. search needs)
     (λ c κs. search needs)
     (λ c. search needs)
     (λ c. search needs)

@@ -1,9 +1,10 @@
 -- The first i groups are copied over zeros; the measure is how many are left.
 use mathlib.Core.Path.{_≡_, refl, sym, ap₂, _∙_}
-use Prim.Native.Nat.{ℕ, _+_, _*_, _-_, _≤_, _<_}
+use Prim.Native.Nat.{_+_, _-_, _≤_, _<_}
 use native.Mathlib.Omega.{arith}
 use lib.ListN.{length, take, replicate, getD}
 use lib.Seq.{length-take-le, getD-take}
+use Rattle.exact.specs.Network.{number}
 use Rattle.line_writer.specs.Addresses.{groupsOf}
 use Rattle.line_writer.specs.AddressLaws.{groups-count, groups-at}
 use Rattle.line_writer.proofs.Copies.{over, over-next, over-all}
@@ -19,23 +20,23 @@ abbrev μ-loop : tie.MeasureT-loop
 loop-holds : tie.Need-loop-holds Inv-loop μ-loop
 loop-holds c = (omega arith, refl)
 
-add-group : tie.Need-add-group Inv-loop μ-loop
-add-group c = omega arith
+add-number : tie.Need-add-number Inv-loop μ-loop
+add-number c = omega arith
 
-array-read-group : tie.Need-array-read-group Inv-loop μ-loop
-array-read-group c = omega arith
+array-read-number : tie.Need-array-read-number Inv-loop μ-loop
+array-read-number c = omega arith
 
-add-group-2 : tie.Need-add-group-2 Inv-loop μ-loop
-add-group-2 c = omega arith
+add-number-2 : tie.Need-add-number-2 Inv-loop μ-loop
+add-number-2 c = omega arith
 
-add-group-3 : tie.Need-add-group-3 Inv-loop μ-loop
-add-group-3 c = omega arith
+add-number-3 : tie.Need-add-number-3 Inv-loop μ-loop
+add-number-3 c = omega arith
 
-array-read-group-2 : tie.Need-array-read-group-2 Inv-loop μ-loop
-array-read-group-2 c = omega arith
+array-read-number-2 : tie.Need-array-read-number-2 Inv-loop μ-loop
+array-read-number-2 c = omega arith
 
-group-requires : tie.Need-group-requires Inv-loop μ-loop
-group-requires c κs = tt
+number-requires : tie.Need-number-requires Inv-loop μ-loop
+number-requires c κs = tt
 
 mul-groups : tie.Need-mul-groups Inv-loop μ-loop
 mul-groups c = omega arith
@@ -58,8 +59,8 @@ loop-again c =
     let inside : i + i + 1 < length (take 16 held) = omega arith in
     let high = getD-take 16 held (i + i) 0 (omega arith) in
     let low = getD-take 16 held (i + i + 1) 0 (omega arith) in
-    let here : c .group .result ≡ getD (groupsOf (take 16 held)) i 0 =
-    c .group .ensures ∙ sym (groups-at (take 16 held) i inside ∙ ap₂ (λ (a b : ℕ). a * 256 + b) high low)
+    let here : c .number .result ≡ getD (groupsOf (take 16 held)) i 0 =
+    c .number .ensures ∙ sym (groups-at (take 16 held) i inside ∙ ap₂ number high low)
     in (
       omega arith,
       rw (c .before .before .loop .inv .1, here) (over-next (groupsOf (take 16 held)) (replicate 8 0) i (omega arith) (omega arith)),
@@ -78,12 +79,12 @@ groups-of-spec =
     Inv-loop
     μ-loop
     loop-holds
-    add-group
-    array-read-group
-    add-group-2
-    add-group-3
-    array-read-group-2
-    group-requires
+    add-number
+    array-read-number
+    add-number-2
+    add-number-3
+    array-read-number-2
+    number-requires
     mul-groups
     array-write-groups
     add-i

@@ -13,7 +13,7 @@ returns c =
     let from = to .before in
     let x = from .before .before .args in
     c .record-with .ensures
-    ∙ same-record (x .kind) (from .address-at .ensures) (to .address-at2 .ensures) (one .port .ensures) (two .port2 .ensures)
+    ∙ same-record (x .kind) (from .address-at .ensures) (to .address-at2 .ensures) (one .number .ensures) (two .number2 .ensures)
 
 pub connection-of-spec : {M : Type 1} → statement M
 connection-of-spec =
