@@ -57,6 +57,17 @@ static void print_caller(const uint8_t *connection)
     }
 }
 
+/*
+ * How many bytes to read before the next look: one, so that no payload is taken; and all that is missing, once a version 2 header
+ * has said its length, so that a long one is not looked at byte by byte.
+ */
+static size_t wanted(size_t received)
+{
+    if (received < 16 || bytes[0] != '\r')
+        return 1;
+    return 16 + (size_t)bytes[14] * 256 + bytes[15] - received;
+}
+
 /* Reads the header of one connection, and leaves its payload unread. */
 static void who_called(int connected)
 {
@@ -64,9 +75,10 @@ static void who_called(int connected)
     uint8_t connection[DAWNHAWSE_CONNECTION];
     uint32_t answer = DAWNHAWSE_MORE;
     size_t received = 0;
+    ssize_t got;
 
-    while (answer == DAWNHAWSE_MORE && received < sizeof bytes && read(connected, bytes + received, 1) == 1) {
-        received++;
+    while (answer == DAWNHAWSE_MORE && (got = read(connected, bytes + received, wanted(received))) > 0) {
+        received += (size_t)got;
         answer = dawnhawse_read(bytes, received, numbers, DAWNHAWSE_NUMBERS, connection, sizeof connection);
     }
     if (answer == DAWNHAWSE_ACCEPTED) {

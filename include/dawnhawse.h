@@ -161,12 +161,12 @@ extern "C" {
  *   numbers, numbers_len         at least DAWNHAWSE_NUMBERS elements
  *   connection, connection_len   at least DAWNHAWSE_CONNECTION bytes
  *
- * Answers
+ * Answers, the first that applies
+ *   DAWNHAWSE_NO_ROOM    numbers has fewer than 4 elements or connection fewer than 221 bytes; both are as they were.
  *   DAWNHAWSE_ACCEPTED   numbers: length, version, the TLV area's start and length. The area is the header's last bytes, so
  *                        start is length where it is empty. connection: who called.
  *   DAWNHAWSE_MORE       numbers: 0, 0, 0, 0. connection: unspecified, all else zero.
  *   1 to 9               DAWNHAWSE_REFUSED_..; numbers: place, 0, 0, 0. connection: unspecified, all else zero.
- *   DAWNHAWSE_NO_ROOM    numbers has fewer than 4 elements or connection fewer than 221 bytes; both are as they were.
  *
  * Elements past the fourth and bytes past the 221st stay as they were.
  */
@@ -182,11 +182,11 @@ uint32_t dawnhawse_read(const uint8_t *bytes, size_t bytes_len, uint64_t *number
  *   at                     the place of the step, counted from 0
  *   numbers, numbers_len   at least DAWNHAWSE_NUMBERS elements
  *
- * Answers
+ * Answers, the first that applies
+ *   DAWNHAWSE_NO_ROOM      numbers has fewer than 4 elements; it is as it was
  *   DAWNHAWSE_FOUND        a TLV stands there; numbers: the place behind it, its type, its value's start and length in the area
  *   DAWNHAWSE_END          the area ends there; numbers: at, 0, 0, 0
  *   DAWNHAWSE_ILL_FORMED   the TLV there does not end in the area, or the place lies beyond it; numbers: at, 0, 0, 0
- *   DAWNHAWSE_NO_ROOM      numbers has fewer than 4 elements; it is as it was
  */
 uint32_t dawnhawse_next(const uint8_t *area, size_t area_len, size_t at, uint64_t *numbers, size_t numbers_len);
 
@@ -195,11 +195,11 @@ uint32_t dawnhawse_next(const uint8_t *area, size_t area_len, size_t at, uint64_
  * all TLVs from its place on, and a walk over N TLVs looks at about N * N / 2. A header can hold 21841: a walk over those takes
  * most of a second, and a tenth of a millisecond by dawnhawse_next.
  *
- * Parameters and numbers are those of dawnhawse_next. Answers
+ * Parameters and numbers are those of dawnhawse_next. Answers, the first that applies
+ *   DAWNHAWSE_NO_ROOM      numbers has fewer than 4 elements; it is as it was
  *   DAWNHAWSE_FOUND        a TLV stands there
  *   DAWNHAWSE_END          the area ends there
  *   DAWNHAWSE_ILL_FORMED   TLVs do not fill what remains, or the place lies beyond the area
- *   DAWNHAWSE_NO_ROOM      numbers has fewer than 4 elements; it is as it was
  */
 uint32_t dawnhawse_step(const uint8_t *area, size_t area_len, size_t at, uint64_t *numbers, size_t numbers_len);
 
@@ -211,12 +211,12 @@ uint32_t dawnhawse_step(const uint8_t *area, size_t area_len, size_t at, uint64_
  *   limit                  how many TLVs may be examined
  *   numbers, numbers_len   at least DAWNHAWSE_NUMBERS elements
  *
- * Answers
+ * Answers, the first that applies
+ *   DAWNHAWSE_NO_ROOM      numbers has fewer than 4 elements; it is as it was
  *   DAWNHAWSE_FOUND        numbers: TLVs examined, the type, the value's start and length in the area
  *   DAWNHAWSE_ABSENT       there is none; numbers: TLVs examined, the type, 0, 0
  *   DAWNHAWSE_GAVE_UP      none is among the first limit TLVs, and there are more; numbers: limit, the type, 0, 0
  *   DAWNHAWSE_ILL_FORMED   TLVs do not fill the area; numbers: 0, the type, 0, 0
- *   DAWNHAWSE_NO_ROOM      numbers has fewer than 4 elements; it is as it was
  */
 uint32_t dawnhawse_lookup(const uint8_t *area, size_t area_len, uint8_t wanted, size_t limit, uint64_t *numbers,
                           size_t numbers_len);

@@ -17,7 +17,7 @@ pub enum Shown {
     Refused,
 }
 
-// What stands at a place, with no look at what lies behind that TLV: for a caller who knows that the area is well-formed.
+// What stands at a place, with no look at what lies behind that TLV: for a caller who knows that what remains is well-formed.
 pub fn head_at(area: &[u8], at: usize) -> Shown
     ensures { λ r. ⌜ (toldStep r ≡ headAt (now (area .entry)) at)
         × (WellFormed (drop at (now (area .entry))) → toldStep r ≡ stepAt (now (area .entry)) at) ⌝ }

@@ -100,24 +100,6 @@ returns-4 c =
 pub addresses-spec : {M : Type 1} → statement M
 addresses-spec =
     tie.close
-    (tie.spec
-    (λ c κs. search needs)
-    add-at
-    (λ c κs. search needs)
-    returns
-    (λ c. search needs)
-    (λ c. search needs)
-    (λ c. search needs)
-    sub-region-2
-    (λ c κs. search needs)
-    (λ c. search needs)
-    (λ c κs. search needs)
-    (λ c. search needs)
-    add-refused
-    (λ c κs. search needs)
-    (λ c. search needs)
-    add-accepted
-    (λ c κs. search needs)
-    returns-2
-    returns-3
-    returns-4)
+    (tie.spec (λ c κs. search needs) add-at (λ c κs. search needs) returns (λ c. search needs) (λ c. search needs) (λ c. search needs) sub-region-2
+    (λ c κs. search needs) (λ c. search needs) (λ c κs. search needs) (λ c. search needs) add-refused (λ c κs. search needs) (λ c. search needs)
+    add-accepted (λ c κs. search needs) returns-2 returns-3 returns-4)

@@ -100,16 +100,5 @@ returns-5 c =
 pub check-spec : {M : Type 1} → statement M
 check-spec =
     tie.close
-    (tie.spec
-    (λ c κs. search needs)
-    returns
-    (λ c κs. search needs)
-    returns-2
-    (λ c κs. search needs)
-    sub-if3
-    returns-3
-    (λ c. search needs)
-    add-if4
-    returns-4
-    (λ c. search needs)
-    returns-5)
+    (tie.spec (λ c κs. search needs) returns (λ c κs. search needs) returns-2 (λ c κs. search needs) sub-if3 returns-3 (λ c. search needs) add-if4
+    returns-4 (λ c. search needs) returns-5)

@@ -137,16 +137,5 @@ returns-2 c =
 pub write-block-spec : {M : Type 1} → statement M
 write-block-spec =
     tie.close
-    (tie.spec
-    (λ c κs. search needs)
-    (λ c κs. search needs)
-    returns
-    (λ c κs. search needs)
-    add-put-head
-    cast-put-head
-    (λ c κs. search needs)
-    (λ c κs. search needs)
-    add-put
-    (λ c κs. search needs)
-    (λ c. search needs)
-    returns-2)
+    (tie.spec (λ c κs. search needs) (λ c κs. search needs) returns (λ c κs. search needs) add-put-head cast-put-head (λ c κs. search needs)
+    (λ c κs. search needs) add-put (λ c κs. search needs) (λ c. search needs) returns-2)

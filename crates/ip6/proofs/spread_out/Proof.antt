@@ -73,19 +73,5 @@ returns c =
 pub spread-out-spec : {M : Type 1} → statement M
 spread-out-spec =
     tie.close
-    (tie.spec
-    Inv-loop
-    μ-loop
-    sub-missing
-    loop-holds
-    sub-i
-    mul-v
-    element-copy-out-v
-    mul-groups
-    element-write-groups
-    add-groups
-    mul-groups-2
-    element-write-groups-2
-    loop-less
-    loop-again
-    returns)
+    (tie.spec Inv-loop μ-loop sub-missing loop-holds sub-i mul-v element-copy-out-v mul-groups element-write-groups add-groups mul-groups-2
+    element-write-groups-2 loop-less loop-again returns)

@@ -77,21 +77,6 @@ returns-3 c =
 pub from-destination-port-spec : {M : Type 1} → statement M
 from-destination-port-spec =
     tie.close
-    (tie.spec
-    (λ c. search needs)
-    (λ c. search needs)
-    (λ c. search needs)
-    (λ c κs. search needs)
-    (λ c. search needs)
-    (λ c κs. search needs)
-    (λ c. search needs)
-    add-refused
-    (λ c κs. search needs)
-    (λ c. search needs)
-    (λ c κs. search needs)
-    cast-t20
-    add-line-feed
-    line-feed-requires
-    returns
-    returns-2
-    returns-3)
+    (tie.spec (λ c. search needs) (λ c. search needs) (λ c. search needs) (λ c κs. search needs) (λ c. search needs) (λ c κs. search needs)
+    (λ c. search needs) add-refused (λ c κs. search needs) (λ c. search needs) (λ c κs. search needs) cast-t20 add-line-feed line-feed-requires
+    returns returns-2 returns-3)

@@ -52,19 +52,5 @@ returns-3 c = let ran = c .before .before .before .before in as-accepted restFie
 pub from-rest-spec : {M : Type 1} → statement M
 from-rest-spec =
     tie.close
-    (tie.spec
-    (λ c. search needs)
-    (λ c. search needs)
-    (λ c. search needs)
-    (λ c κs. search needs)
-    (λ c. search needs)
-    (λ c κs. search needs)
-    (λ c. search needs)
-    add-refused
-    (λ c κs. search needs)
-    (λ c. search needs)
-    add-t13
-    (λ c κs. search needs)
-    returns
-    returns-2
-    returns-3)
+    (tie.spec (λ c. search needs) (λ c. search needs) (λ c. search needs) (λ c κs. search needs) (λ c. search needs) (λ c κs. search needs)
+    (λ c. search needs) add-refused (λ c κs. search needs) (λ c. search needs) add-t13 (λ c κs. search needs) returns returns-2 returns-3)

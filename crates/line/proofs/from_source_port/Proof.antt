@@ -60,20 +60,6 @@ returns-3 c = let ran = c .before .before .before .before in as-accepted sourceP
 pub from-source-port-spec : {M : Type 1} → statement M
 from-source-port-spec =
     tie.close
-    (tie.spec
-    (λ c. search needs)
-    (λ c. search needs)
-    (λ c. search needs)
-    (λ c κs. search needs)
-    (λ c. search needs)
-    (λ c κs. search needs)
-    (λ c. search needs)
-    add-refused
-    (λ c κs. search needs)
-    (λ c. search needs)
-    add-from-destination-port
-    cast-from-destination-port
-    from-destination-port-requires
-    returns
-    returns-2
-    returns-3)
+    (tie.spec (λ c. search needs) (λ c. search needs) (λ c. search needs) (λ c κs. search needs) (λ c. search needs) (λ c κs. search needs)
+    (λ c. search needs) add-refused (λ c κs. search needs) (λ c. search needs) add-from-destination-port cast-from-destination-port
+    from-destination-port-requires returns returns-2 returns-3)

@@ -53,20 +53,6 @@ returns-3 c = let ran = c .before .before .before .before in as-accepted tcpWord
 pub from-tcp-spec : {M : Type 1} → statement M
 from-tcp-spec =
     tie.close
-    (tie.spec
-    (λ c. search needs)
-    (λ c. search needs)
-    (λ c. search needs)
-    (λ c. search needs)
-    (λ c κs. search needs)
-    (λ c. search needs)
-    (λ c κs. search needs)
-    (λ c. search needs)
-    add-refused
-    (λ c κs. search needs)
-    (λ c. search needs)
-    add-from-family
-    from-family-requires
-    returns
-    returns-2
-    returns-3)
+    (tie.spec (λ c. search needs) (λ c. search needs) (λ c. search needs) (λ c. search needs) (λ c κs. search needs) (λ c. search needs)
+    (λ c κs. search needs) (λ c. search needs) add-refused (λ c κs. search needs) (λ c. search needs) add-from-family from-family-requires returns
+    returns-2 returns-3)

@@ -52,20 +52,6 @@ returns-3 c = let ran = c .before .before .before .before in as-accepted unknown
 pub from-unknown-spec : {M : Type 1} → statement M
 from-unknown-spec =
     tie.close
-    (tie.spec
-    (λ c. search needs)
-    (λ c. search needs)
-    (λ c. search needs)
-    (λ c. search needs)
-    (λ c κs. search needs)
-    (λ c. search needs)
-    (λ c κs. search needs)
-    (λ c. search needs)
-    add-refused
-    (λ c κs. search needs)
-    (λ c. search needs)
-    add-from-unknown-end
-    from-unknown-end-requires
-    returns
-    returns-2
-    returns-3)
+    (tie.spec (λ c. search needs) (λ c. search needs) (λ c. search needs) (λ c. search needs) (λ c κs. search needs) (λ c. search needs)
+    (λ c κs. search needs) (λ c. search needs) add-refused (λ c κs. search needs) (λ c. search needs) add-from-unknown-end from-unknown-end-requires
+    returns returns-2 returns-3)

@@ -30,16 +30,5 @@ returns-4 c = let start = c .before .before .before .before .before .before in s
 pub from-unknown-end-spec : {M : Type 1} → statement M
 from-unknown-end-spec =
     tie.close
-    (tie.spec
-    (λ c κs. search needs)
-    returns
-    (λ c. search needs)
-    (λ c. search needs)
-    (λ c κs. search needs)
-    line-feed-requires
-    (λ c. search needs)
-    (λ c κs. search needs)
-    (λ c κs. search needs)
-    returns-2
-    returns-3
-    returns-4)
+    (tie.spec (λ c κs. search needs) returns (λ c. search needs) (λ c. search needs) (λ c κs. search needs) line-feed-requires (λ c. search needs)
+    (λ c κs. search needs) (λ c κs. search needs) returns-2 returns-3 returns-4)

@@ -17,11 +17,4 @@ returns-3 c = let start = c .before .before .before .before .before in sees-as (
 pub from-word-spec : {M : Type 1} → statement M
 from-word-spec =
     tie.close
-    (tie.spec
-    (λ c κs. search needs)
-    returns
-    (λ c. search needs)
-    (λ c κs. search needs)
-    (λ c κs. search needs)
-    returns-2
-    returns-3)
+    (tie.spec (λ c κs. search needs) returns (λ c. search needs) (λ c κs. search needs) (λ c κs. search needs) returns-2 returns-3)

@@ -47,19 +47,5 @@ returns-3 c = let ran = c .before .before .before in as-accepted lfField (says r
 pub line-feed-spec : {M : Type 1} → statement M
 line-feed-spec =
     tie.close
-    (tie.spec
-    (λ c. search needs)
-    (λ c. search needs)
-    (λ c. search needs)
-    (λ c. search needs)
-    (λ c κs. search needs)
-    (λ c. search needs)
-    (λ c κs. search needs)
-    (λ c. search needs)
-    add-refused
-    (λ c κs. search needs)
-    (λ c. search needs)
-    add-t17
-    returns
-    returns-2
-    returns-3)
+    (tie.spec (λ c. search needs) (λ c. search needs) (λ c. search needs) (λ c. search needs) (λ c κs. search needs) (λ c. search needs)
+    (λ c κs. search needs) (λ c. search needs) add-refused (λ c κs. search needs) (λ c. search needs) add-t17 returns returns-2 returns-3)

@@ -75,19 +75,5 @@ returns c =
 pub groups-of-spec : {M : Type 1} → statement M
 groups-of-spec =
     tie.close
-    (tie.spec
-    Inv-loop
-    μ-loop
-    loop-holds
-    add-number
-    array-read-number
-    add-number-2
-    add-number-3
-    array-read-number-2
-    number-requires
-    mul-groups
-    array-write-groups
-    add-i
-    loop-less
-    loop-again
-    returns)
+    (tie.spec Inv-loop μ-loop loop-holds add-number array-read-number add-number-2 add-number-3 array-read-number-2 number-requires mul-groups
+    array-write-groups add-i loop-less loop-again returns)

@@ -105,13 +105,5 @@ returns-2 c =
 pub write-line-spec : {M : Type 1} → statement M
 write-line-spec =
     tie.close
-    (tie.spec
-    (λ c κs. search needs)
-    check-requires
-    (λ c κs. search needs)
-    returns
-    array-share-prefix-bytes
-    slice-aggregate-put
-    (λ c κs. search needs)
-    (λ c. search needs)
-    returns-2)
+    (tie.spec (λ c κs. search needs) check-requires (λ c κs. search needs) returns array-share-prefix-bytes slice-aggregate-put (λ c κs. search needs)
+    (λ c. search needs) returns-2)

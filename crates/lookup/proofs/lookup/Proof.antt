@@ -102,25 +102,6 @@ returns-4 c =
 pub lookup-spec : {M : Type 1} → statement M
 lookup-spec =
     tie.close
-    (tie.spec
-    Inv-loop
-    μ-loop
-    (λ c κs. search needs)
-    loop-holds
-    returns
-    add-count
-    (λ c. search needs)
-    shared-slice-read-number
-    (λ c. search needs)
-    shared-slice-read-number-2
-    (λ c κs. search needs)
-    (λ c. search needs)
-    (λ c. search needs)
-    add-start
-    returns-2
-    add-at
-    add-at-2
-    loop-less
-    loop-again
-    returns-3
-    returns-4)
+    (tie.spec Inv-loop μ-loop (λ c κs. search needs) loop-holds returns add-count (λ c. search needs) shared-slice-read-number (λ c. search needs)
+    shared-slice-read-number-2 (λ c κs. search needs) (λ c. search needs) (λ c. search needs) add-start returns-2 add-at add-at-2 loop-less loop-again
+    returns-3 returns-4)

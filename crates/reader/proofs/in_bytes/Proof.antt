@@ -11,10 +11,4 @@ returns c = sym (ap inBytes (c .before .verdict .given .1))
 pub in-bytes-spec : {M : Type 1} → statement M
 in-bytes-spec =
     tie.close
-    (tie.spec
-    (λ c. search needs)
-    (λ c. search needs)
-    (λ c. search needs)
-    returns
-    (λ c. search needs)
-    (λ c. search needs))
+    (tie.spec (λ c. search needs) (λ c. search needs) (λ c. search needs) returns (λ c. search needs) (λ c. search needs))

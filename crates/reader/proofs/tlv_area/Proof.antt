@@ -26,9 +26,4 @@ returns c =
 pub tlv-area-spec : {M : Type 1} → statement M
 tlv-area-spec =
     tie.close
-    (tie.spec
-    (λ c κs. search needs)
-    (λ c. search needs)
-    (λ c. search needs)
-    part-result-end
-    returns)
+    (tie.spec (λ c κs. search needs) (λ c. search needs) (λ c. search needs) part-result-end returns)

@@ -16,10 +16,4 @@ returns-3 c = rw (ne-eqb _ 0x43 (c .if1 .left))
 pub has-mark-spec : {M : Type 1} → statement M
 has-mark-spec =
     tie.close
-    (tie.spec
-    (λ c. search needs)
-    (λ c. search needs)
-    (λ c. search needs)
-    returns
-    returns-2
-    returns-3)
+    (tie.spec (λ c. search needs) (λ c. search needs) (λ c. search needs) returns returns-2 returns-3)

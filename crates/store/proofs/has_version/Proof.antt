@@ -13,8 +13,4 @@ returns-2 c = rw (ne-eqb _ 0x00 (c .if1 .left))
 pub has-version-spec : {M : Type 1} → statement M
 has-version-spec =
     tie.close
-    (tie.spec
-    (λ c. search needs)
-    (λ c. search needs)
-    returns
-    returns-2)
+    (tie.spec (λ c. search needs) (λ c. search needs) returns returns-2)

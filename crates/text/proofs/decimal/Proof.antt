@@ -165,25 +165,6 @@ returns-6 c =
 pub decimal-spec : {M : Type 1} → statement M
 decimal-spec =
     tie.close
-    (tie.spec
-    Inv-loop
-    μ-loop
-    returns
-    (λ c. search needs)
-    (λ c κs. search needs)
-    (λ c. search needs)
-    (λ c. search needs)
-    returns-2
-    loop-holds
-    (λ c. search needs)
-    add-t18
-    returns-3
-    returns-4
-    (λ c κs. search needs)
-    (λ c. search needs)
-    (λ c. search needs)
-    returns-5
-    add-i
-    loop-less
-    loop-again
-    returns-6)
+    (tie.spec Inv-loop μ-loop returns (λ c. search needs) (λ c κs. search needs) (λ c. search needs) (λ c. search needs) returns-2 loop-holds
+    (λ c. search needs) add-t18 returns-3 returns-4 (λ c κs. search needs) (λ c. search needs) (λ c. search needs) returns-5 add-i loop-less
+    loop-again returns-6)

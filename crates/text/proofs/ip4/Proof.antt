@@ -193,26 +193,6 @@ returns-3 c =
 pub ip4-spec : {M : Type 1} → statement M
 ip4-spec =
     tie.close
-    (tie.spec
-    Inv-loop
-    μ-loop
-    loop-holds
-    sub-decimal
-    (λ c. search needs)
-    (λ c. search needs)
-    (λ c κs. search needs)
-    (λ c. search needs)
-    cast-octets
-    array-write-octets
-    add-at
-    (λ c. search needs)
-    (λ c κs. search needs)
-    returns
-    (λ c. search needs)
-    add-t21
-    (λ c κs. search needs)
-    returns-2
-    add-i
-    loop-less
-    loop-again
-    returns-3)
+    (tie.spec Inv-loop μ-loop loop-holds sub-decimal (λ c. search needs) (λ c. search needs) (λ c κs. search needs) (λ c. search needs) cast-octets
+    array-write-octets add-at (λ c. search needs) (λ c κs. search needs) returns (λ c. search needs) add-t21 (λ c κs. search needs) returns-2 add-i
+    loop-less loop-again returns-3)

@@ -133,16 +133,4 @@ returns-3 c =
 pub line-end-spec : {M : Type 1} → statement M
 line-end-spec =
     tie.close
-    (tie.spec
-    Inv-loop
-    μ-loop
-    loop-holds
-    returns
-    shared-slice-read-c
-    sub-if5
-    returns-2
-    add-i
-    loop-less
-    loop-again
-    add-t15
-    returns-3)
+    (tie.spec Inv-loop μ-loop loop-holds returns shared-slice-read-c sub-if5 returns-2 add-i loop-less loop-again add-t15 returns-3)

@@ -136,22 +136,6 @@ returns-2 c =
 pub count-of-spec : {M : Type 1} → statement M
 count-of-spec =
     tie.close
-    (tie.spec
-    Inv-loop
-    μ-loop
-    (λ c κs. search needs)
-    loop-holds
-    (λ c. search needs)
-    shared-slice-read-number
-    (λ c. search needs)
-    shared-slice-read-number-2
-    (λ c κs. search needs)
-    (λ c. search needs)
-    (λ c. search needs)
-    add-count
-    add-at
-    add-at-2
-    loop-less
-    loop-again
-    returns
+    (tie.spec Inv-loop μ-loop (λ c κs. search needs) loop-holds (λ c. search needs) shared-slice-read-number (λ c. search needs)
+    shared-slice-read-number-2 (λ c κs. search needs) (λ c. search needs) (λ c. search needs) add-count add-at add-at-2 loop-less loop-again returns
     returns-2)

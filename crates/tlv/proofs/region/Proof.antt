@@ -188,35 +188,6 @@ returns-8 c =
 pub region-spec : {M : Type 1} → statement M
 region-spec =
     tie.close
-    (tie.spec
-    Inv-loop
-    μ-loop
-    loop-holds
-    returns
-    sub-if2
-    returns-2
-    add-if3
-    returns-3
-    sub-room
-    sub-room-2
-    add-high
-    shared-slice-read-high
-    cast-high
-    mul-high
-    add-t12
-    returns-4
-    add-if5
-    returns-5
-    add-size
-    shared-slice-read-size
-    cast-size
-    add-size-2
-    is-good-requires
-    add-i
-    add-i-2
-    loop-less
-    loop-again
-    add-t16
-    returns-6
-    returns-7
-    returns-8)
+    (tie.spec Inv-loop μ-loop loop-holds returns sub-if2 returns-2 add-if3 returns-3 sub-room sub-room-2 add-high shared-slice-read-high cast-high
+    mul-high add-t12 returns-4 add-if5 returns-5 add-size shared-slice-read-size cast-size add-size-2 is-good-requires add-i add-i-2 loop-less
+    loop-again add-t16 returns-6 returns-7 returns-8)

@@ -27,12 +27,4 @@ returns-3 c = ap (λ (x : Shown). stepTold (c .before .before .args .at) (toldSt
 pub tell-step-spec : {M : Type 1} → statement M
 tell-step-spec =
     tie.close
-    (tie.spec
-    (λ c. search needs)
-    add-t8
-    (λ c. search needs)
-    (λ c. search needs)
-    (λ c. search needs)
-    returns
-    returns-2
-    returns-3)
+    (tie.spec (λ c. search needs) add-t8 (λ c. search needs) (λ c. search needs) (λ c. search needs) returns returns-2 returns-3)

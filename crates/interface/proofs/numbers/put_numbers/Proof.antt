@@ -26,11 +26,4 @@ returns-2 c =
 pub put-numbers-spec : {M : Type 1} → statement M
 put-numbers-spec =
     tie.close
-    (tie.spec
-    returns
-    (λ c. search needs)
-    slice-write-out-2
-    slice-write-out-3
-    (λ c. search needs)
-    (λ c. search needs)
-    returns-2)
+    (tie.spec returns (λ c. search needs) slice-write-out-2 slice-write-out-3 (λ c. search needs) (λ c. search needs) returns-2)

@@ -34,10 +34,4 @@ returns c =
 pub destination-port-of-spec : {M : Type 1} → statement M
 destination-port-of-spec =
     tie.close
-    (tie.spec
-    (λ c κs. search needs)
-    add-port-at
-    (λ c κs. search needs)
-    add-port-at-2
-    port-at-requires
-    returns)
+    (tie.spec (λ c κs. search needs) add-port-at (λ c κs. search needs) add-port-at-2 port-at-requires returns)

@@ -56,14 +56,4 @@ returns c =
 pub held-spec : {M : Type 1} → statement M
 held-spec =
     tie.close
-    (tie.spec
-    Inv-loop
-    μ-loop
-    least-requires
-    loop-holds
-    shared-slice-read-address
-    array-write-address
-    add-i
-    loop-less
-    loop-again
-    returns)
+    (tie.spec Inv-loop μ-loop least-requires loop-holds shared-slice-read-address array-write-address add-i loop-less loop-again returns)

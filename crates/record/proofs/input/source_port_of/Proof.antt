@@ -27,8 +27,4 @@ returns c =
 pub source-port-of-spec : {M : Type 1} → statement M
 source-port-of-spec =
     tie.close
-    (tie.spec
-    (λ c κs. search needs)
-    add-port-at
-    port-at-requires
-    returns)
+    (tie.spec (λ c κs. search needs) add-port-at port-at-requires returns)

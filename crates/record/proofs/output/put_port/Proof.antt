@@ -27,12 +27,5 @@ returns c =
 pub put-port-spec : {M : Type 1} → statement M
 put-port-spec =
     tie.close
-    (tie.spec
-    (λ c. search needs)
-    (λ c. search needs)
-    (λ c κs. search needs)
-    array-share-prefix-bytes
-    slice-aggregate-put
-    (λ c κs. search needs)
-    (λ c. search needs)
-    returns)
+    (tie.spec (λ c. search needs) (λ c. search needs) (λ c κs. search needs) array-share-prefix-bytes slice-aggregate-put (λ c κs. search needs)
+    (λ c. search needs) returns)

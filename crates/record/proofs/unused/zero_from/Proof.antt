@@ -68,13 +68,4 @@ returns-2 c =
 pub zero-from-spec : {M : Type 1} → statement M
 zero-from-spec =
     tie.close
-    (tie.spec
-    Inv-loop
-    μ-loop
-    loop-holds
-    array-read-if1
-    returns
-    add-i
-    loop-less
-    loop-again
-    returns-2)
+    (tie.spec Inv-loop μ-loop loop-holds array-read-if1 returns add-i loop-less loop-again returns-2)
