@@ -25,7 +25,7 @@ use Rattle.walker.specs.Laws.{walk-shows}
 -- the area of an accepted header is the one that the reading gives
 area-read : (s : List ℕ) (w : Verdict) (r : Reading) (h : Header) (n : ℕ) → toldVerdict s w r ≡ accepted h n → areaBy w (r .record .kind) s ≡ h .area
 area-read s (Accepted m v) r h n e =
-    let said : Header = record { connection = r .record; version = v; area = areaOf v (r .record .kind) (take m s) } in
+    let said : Header = record { «record» = r .record; version = v; area = areaOf v (r .record .kind) (take m s) } in
     let same : said ≡ h = cc in
     ap (λ (x : Header). x .area) same
 area-read s More r h n e = let z : _≡_ {A = ℕ} 0 1 = cc in absurd (omega arith)

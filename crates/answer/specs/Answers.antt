@@ -76,7 +76,7 @@ areaOf version kind f = pick (eqb version 2) (blockArea kind f) []
 -- the answer to the bytes s as a verdict on them
 abbrev pub toldVerdict : List ℕ → Verdict → Reading → Claim.Verdict Header
 toldVerdict s (Accepted n v) r =
-    accepted (record { connection = r .record; version = v; area = areaOf v (r .record .kind) (take n s) }) n
+    accepted (record { «record» = r .record; version = v; area = areaOf v (r .record .kind) (take n s) }) n
 toldVerdict s More r = more
 toldVerdict s (Refused k p) r = refused (numberOf k) p
 

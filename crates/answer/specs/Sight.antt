@@ -53,7 +53,7 @@ callerOf r =
 
 -- the caller by the verdict: of a version 2 header only the kind, and where no header is accepted nobody
 abbrev pub callerBy : Claim.Verdict Header → Caller
-callerBy (accepted h n) = pick (eqb (h .version) 2) (kindOnly (h .connection .kind)) (callerOf (h .connection))
+callerBy (accepted h n) = pick (eqb (h .version) 2) (kindOnly (h .«record» .kind)) (callerOf (h .«record»))
 callerBy more = kindOnly Unspecified
 callerBy (refused k p) = kindOnly Unspecified
 

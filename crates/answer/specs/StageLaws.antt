@@ -8,7 +8,7 @@ use Rattle.exact.specs.Claim.{Verdict, accepted, more, refused}
 use Rattle.exact.specs.Field.{shift, after}
 use Rattle.exact.specs.Parser.{Parser, _then_, tail-all}
 use Rattle.exact.specs.Stage.{on, stage-accepted}
-use Rattle.exact.specs.Told.{told}
+use Rattle.exact.specs.Scans.{told}
 use Rattle.exact.specs.declared.Scan.{Scan}
 use Rattle.header.specs.Header.{Header}
 use Rattle.fields.specs.LineFields.{lined}

@@ -1,6 +1,5 @@
 pub mod Areas
 pub mod AreaLaws
 pub mod Written
-pub mod WrittenLaws
 pub mod WholeBlock
 pub mod Demand

@@ -71,11 +71,11 @@ pub fn put_head(kind: Kind, size: u16, out: &mut [u8])
 
 // What is answered for an area and an output of this size: unused bytes or ports that are not zero (11), an area that may not stand there (12), a block
 // that is too long (13), an output that is too short (14), or the length.
-fn check(connection: Record, area: &[u8], room: usize) -> Written
-    ensures { λ r. ⌜ toldWritten r ≡ blockAnswer connection (now (area .entry)) room ⌝ }
+fn check(record: Record, area: &[u8], room: usize) -> Written
+    ensures { λ r. ⌜ toldWritten r ≡ blockAnswer «record» (now (area .entry)) room ⌝ }
 {
-    let kind = connection.kind;
-    if !clean(connection) {
+    let kind = record.kind;
+    if !clean(record) {
         return Written::Refused(Fault::Unused);
     }
     if !area_fits(kind, area) {
@@ -93,22 +93,22 @@ fn check(connection: Record, area: &[u8], room: usize) -> Written
 }
 
 // Writes the record with the TLV area behind its address block: how many bytes, or why the output stays as it was.
-pub fn write_block(connection: Record, area: &[u8], out: &mut [u8]) -> Written
-    ensures { λ r. ⌜ (toldWritten r ≡ blockAnswer connection (now (area .entry)) (length (now (out .entry))))
-        × (now (out .exit) ≡ outputAfter (blockAnswer connection (now (area .entry)) (length (now (out .entry))))
-        (writtenBlock connection (now (area .entry))) (now (out .entry)))
-        × Means connection (now (area .entry)) (length (now (out .entry))) (toldWritten r)
-        × ReadsBack connection (now (area .entry)) (toldWritten r) (now (out .exit)) ⌝ }
+pub fn write_block(record: Record, area: &[u8], out: &mut [u8]) -> Written
+    ensures { λ r. ⌜ (toldWritten r ≡ blockAnswer «record» (now (area .entry)) (length (now (out .entry))))
+        × (now (out .exit) ≡ outputAfter (blockAnswer «record» (now (area .entry)) (length (now (out .entry))))
+        (writtenBlock «record» (now (area .entry))) (now (out .entry)))
+        × Means «record» (now (area .entry)) (length (now (out .entry))) (toldWritten r)
+        × ReadsBack «record» (now (area .entry)) (toldWritten r) (now (out .exit)) ⌝ }
 {
-    let kind = connection.kind;
-    let answer = check(connection, area, out.len());
+    let kind = record.kind;
+    let answer = check(record, area, out.len());
     let written = is_written(answer);
     if !written {
         return answer;
     }
     let block = block_length(kind);
     put_head(kind, (block + area.len()) as u16, out);
-    put_addresses(connection, out, 16);
+    put_addresses(record, out, 16);
     put(area, out, 16 + block);
     answer
 }

@@ -45,47 +45,47 @@ module _ (answerFor : Record → ℕ → WriteAnswer) (text : Record → List �
   room = roomBeside (length numbers) (length output)
 
   abbrev Left : Asked → ℕ → List ℕ → List ℕ → Type 0
-  Left x answer o n = Writes (askedAnswer answerFor x room) (text (x .connection)) output numbers answer o n
+  Left x answer o n = Writes (askedAnswer answerFor x room) (text (x .«record»)) output numbers answer o n
 
   pub refused : {x : Asked} → a ≡ x → (a .number ≡ 0 → ⊥) → Left x (a .number) output numbers
   refused e h =
       let is : refuses (a .number) ≡ askedAnswer answerFor a room =
-      ap (λ (b : Bool). pick b (answerFor (a .connection) room) (refuses (a .number))) (sym (ne-eqb (a .number) 0 h))
+      ap (λ (b : Bool). pick b (answerFor (a .«record») room) (refuses (a .number))) (sym (ne-eqb (a .number) 0 h))
       in
       subst (λ (y : Asked). Left y (a .number) output numbers) e
       (record {
         answers = ap writtenNumber is;
-        writes = ap (λ (w : WriteAnswer). outputAfter w (text (a .connection)) output) is;
+        writes = ap (λ (w : WriteAnswer). outputAfter w (text (a .«record»)) output) is;
         tells = ap (λ (w : WriteAnswer). numbersAfter w numbers) is;
       })
 
   -- w: what the writer answered over the part of the output that it may use, whose bytes it left as `part`
   pub passed-on : {x : Asked} (within : (r : Record) (m : ℕ) → Within m (answerFor r m)) (w : Written) (beside : ℕ) (part : List ℕ) {answer : ℕ} {n : List ℕ}
       → a ≡ x → a .number ≡ 0 → beside ≡ room
-      → toldWritten w ≡ answerFor (a .connection) (length (take beside output))
-      → part ≡ outputAfter (answerFor (a .connection) (length (take beside output))) (text (a .connection)) (take beside output)
+      → toldWritten w ≡ answerFor (a .«record») (length (take beside output))
+      → part ≡ outputAfter (answerFor (a .«record») (length (take beside output))) (text (a .«record»)) (take beside output)
       → (answer ≡ writtenNumber (toldWritten w)) × (n ≡ numbersAfter (toldWritten w) numbers)
       → Left x answer (part ++ drop beside output) n
   passed-on within w beside part {answer} {n} e h same told left tells =
       let inside = room-inside (length numbers) (length output) in
       let size : length (take beside output) ≡ beside = length-take-le beside output (omega arith) in
-      let yes : answerFor (a .connection) room ≡ askedAnswer answerFor a room =
-      ap (λ (b : Bool). pick b (answerFor (a .connection) room) (refuses (a .number))) (sym (eq-eqb (a .number) 0 h))
+      let yes : answerFor (a .«record») room ≡ askedAnswer answerFor a room =
+      ap (λ (b : Bool). pick b (answerFor (a .«record») room) (refuses (a .number))) (sym (eq-eqb (a .number) 0 h))
       in
-      let is : answerFor (a .connection) (length (take beside output)) ≡ askedAnswer answerFor a room =
-      ap (answerFor (a .connection)) (size ∙ same) ∙ yes
+      let is : answerFor (a .«record») (length (take beside output)) ≡ askedAnswer answerFor a room =
+      ap (answerFor (a .«record»)) (size ∙ same) ∙ yes
       in
-      let whole : outputAfter (answerFor (a .connection) beside) (text (a .connection)) (take beside output) ++ drop beside output
-      ≡ outputAfter (answerFor (a .connection) beside) (text (a .connection)) output =
-      part-output (answerFor (a .connection) beside) (text (a .connection)) output beside (omega arith) (within (a .connection) beside)
+      let whole : outputAfter (answerFor (a .«record») beside) (text (a .«record»)) (take beside output) ++ drop beside output
+      ≡ outputAfter (answerFor (a .«record») beside) (text (a .«record»)) output =
+      part-output (answerFor (a .«record») beside) (text (a .«record»)) output beside (omega arith) (within (a .«record») beside)
       in
       subst (λ (y : Asked). Left y answer (part ++ drop beside output) n) e
       (record {
         answers = tells .0 ∙ ap writtenNumber (told ∙ is);
         writes = ap (λ (l : List ℕ). l ++ drop beside output)
-            (left ∙ ap (λ (m : ℕ). outputAfter (answerFor (a .connection) m) (text (a .connection)) (take beside output)) size)
+            (left ∙ ap (λ (m : ℕ). outputAfter (answerFor (a .«record») m) (text (a .«record»)) (take beside output)) size)
             ∙ whole
-            ∙ ap (λ (v : WriteAnswer). outputAfter v (text (a .connection)) output) (ap (answerFor (a .connection)) same ∙ yes);
+            ∙ ap (λ (v : WriteAnswer). outputAfter v (text (a .«record»)) output) (ap (answerFor (a .«record»)) same ∙ yes);
         tells = tells .1 ∙ ap (λ (v : WriteAnswer). numbersAfter v numbers) (told ∙ is);
       })
 

@@ -34,7 +34,7 @@ numbersOf (refused k p) = p ∷ 0 ∷ 0 ∷ 0 ∷ []
 
 -- the record of an accepted header; unspecified where nothing is accepted
 abbrev pub spokenRecord : Claim.Verdict Header → Record
-spokenRecord (accepted h n) = h .connection
+spokenRecord (accepted h n) = h .«record»
 spokenRecord more = bare Unspecified
 spokenRecord (refused k p) = bare Unspecified
 

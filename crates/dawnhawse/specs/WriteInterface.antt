@@ -16,7 +16,7 @@ roomBeside numbers output = pick (leb numbersSize numbers) output 0
 
 -- the number of a request that is refused; else the writer's answer
 abbrev pub askedAnswer : (answerFor : Record → (room : ℕ) → WriteAnswer) → Asked → (room : ℕ) → WriteAnswer
-askedAnswer answerFor a room = pick (eqb (a .number) 0) (answerFor (a .connection) room) (refuses (a .number))
+askedAnswer answerFor a room = pick (eqb (a .number) 0) (answerFor (a .«record») room) (refuses (a .number))
 
 -- 0, or the number of the refusal
 abbrev pub writtenNumber : WriteAnswer → ℕ

@@ -55,7 +55,7 @@ pub extern "C" fn dawnhawse_read(bytes: &[u8], numbers: &mut [u64], connection: 
     if connection.len() < CONNECTION {
         return 14;
     }
-    let seen = reader::scan(bytes);
+    let seen = reader::see(bytes);
     let verdict = seen.verdict;
     let caller = seen.caller;
     let kind = caller.kind;

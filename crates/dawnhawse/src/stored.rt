@@ -19,17 +19,17 @@ ghost use Rattle.dawnhawse.specs.StoreInterface.{loadNumber, loadedNumbe
 #[no_mangle]
 pub extern "C" fn dawnhawse_store(connection: &[u8], out: &mut [u8], numbers: &mut [u64]) -> u32
     ensures { λ r. ⌜ Writes (askedAnswer storeAnswer (requestOf (now (connection .entry))) (roomBeside (length (now (numbers .entry))) (length (now (out .entry)))))
-        (stored (requestOf (now (connection .entry)) .connection))
+        (stored (requestOf (now (connection .entry)) .«record»))
         (now (out .entry)) (now (numbers .entry)) r (now (out .exit)) (now (numbers .exit)) ⌝ }
 {
     let asked = request(connection);
     let number = asked.number;
-    let caller = asked.connection;
+    let record = asked.record;
     if number != 0 {
         return number;
     }
     let room = room_beside(numbers.len(), out.len());
-    tell_written(store::store(caller, &mut out[..room]), numbers)
+    tell_written(store::store(record, &mut out[..room]), numbers)
 }
 
 // The number of an outcome.
@@ -53,7 +53,7 @@ pub extern "C" fn dawnhawse_load(stored: &[u8], connection: &mut [u8]) -> u32
     }
     let loaded = store::load(stored);
     let outcome = loaded.outcome;
-    let caller = loaded.record;
-    put_record(caller, connection);
+    let record = loaded.record;
+    put_record(record, connection);
     outcome_number(outcome)
 }

@@ -37,17 +37,17 @@ pub(crate) fn tell_written(written: Written, numbers: &mut [u64]) -> u32
 #[no_mangle]
 pub extern "C" fn dawnhawse_write_v1(connection: &[u8], out: &mut [u8], numbers: &mut [u64]) -> u32
     ensures { λ r. ⌜ Writes (askedAnswer lineAnswer (requestOf (now (connection .entry))) (roomBeside (length (now (numbers .entry))) (length (now (out .entry)))))
-        (writtenLine (requestOf (now (connection .entry)) .connection))
+        (writtenLine (requestOf (now (connection .entry)) .«record»))
         (now (out .entry)) (now (numbers .entry)) r (now (out .exit)) (now (numbers .exit)) ⌝ }
 {
     let asked = request(connection);
     let number = asked.number;
-    let caller = asked.connection;
+    let record = asked.record;
     if number != 0 {
         return number;
     }
     let room = room_beside(numbers.len(), out.len());
-    tell_written(line_writer::write_line(caller, &mut out[..room]), numbers)
+    tell_written(line_writer::write_line(record, &mut out[..room]), numbers)
 }
 
 // Writes a connection's version 2 header with a TLV area; else as `dawnhawse_write_v1`.
@@ -59,18 +59,18 @@ pub extern "C" fn dawnhawse_write_v2(
     numbers: &mut [u64],
 ) -> u32
     ensures { λ r. ⌜ Writes (askedAnswer (λ (c : Record). blockAnswer c (now (area .entry))) (requestOf (now (connection .entry))) (roomBeside (length (now (numbers .entry))) (length (now (out .entry)))))
-        (writtenBlock (requestOf (now (connection .entry)) .connection) (now (area .entry)))
+        (writtenBlock (requestOf (now (connection .entry)) .«record») (now (area .entry)))
         (now (out .entry)) (now (numbers .entry)) r (now (out .exit)) (now (numbers .exit)) ⌝ }
 {
     let asked = request(connection);
     let number = asked.number;
-    let caller = asked.connection;
+    let record = asked.record;
     if number != 0 {
         return number;
     }
     let room = room_beside(numbers.len(), out.len());
     tell_written(
-        block_writer::write_block(caller, area, &mut out[..room]),
+        block_writer::write_block(record, area, &mut out[..room]),
         numbers,
     )
 }

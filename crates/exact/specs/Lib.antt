@@ -15,5 +15,5 @@ pub mod Byte
 pub mod Number
 pub mod Ended
 pub mod Valueless
-pub mod Told
+pub mod Scans
 pub mod Numbered

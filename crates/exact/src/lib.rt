@@ -5,7 +5,7 @@ ghost use Prim.Native.Nat.{ℕ};
 ghost use Rattle.exact.specs.Claim.{Claim};
 ghost use Rattle.exact.specs.Valueless.{Valueless};
 ghost use Rattle.exact.specs.Network.{number as numberOf};
-ghost use Rattle.exact.specs.Told.{told};
+ghost use Rattle.exact.specs.Scans.{told};
 ghost use Rattle.exact.specs.Literal.{Common, literal as literalOf};
 
 // What a scan of a field finds.

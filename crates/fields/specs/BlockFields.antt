@@ -29,7 +29,7 @@ use Rattle.fields.specs.LineFields.{word}
 
 -- what a version 2 block says
 abbrev pub blocked : Record → List ℕ → Header
-blocked r area = record { connection = r; version = 2; area = area }
+blocked r area = record { «record» = r; version = 2; area = area }
 
 -- ── the fields ──
 pub data Command : Type 0 where
@@ -138,12 +138,12 @@ abbrev pub block : Parser Header
 block = signatureField then λ u. command then commandRest
 
 -- ── the members ──
-blocked-of : (h : Header) (r : Record) (a : List ℕ) → h .connection ≡ r → h .area ≡ a → h .version ≡ 2 → h ≡ blocked r a
-blocked-of h r a x y z = λ i. record { connection = x i; version = z i; area = y i }
+blocked-of : (h : Header) (r : Record) (a : List ℕ) → h .«record» ≡ r → h .area ≡ a → h .version ≡ 2 → h ≡ blocked r a
+blocked-of h r a x y z = λ i. record { «record» = x i; version = z i; area = y i }
 
-says-blocked : (h : Header) (r : Record) (a : List ℕ) → h ≡ blocked r a → (h .connection ≡ r) × (h .area ≡ a) × (h .version ≡ 2)
+says-blocked : (h : Header) (r : Record) (a : List ℕ) → h ≡ blocked r a → (h .«record» ≡ r) × (h .area ≡ a) × (h .version ≡ 2)
 says-blocked h r a e =
-    (ap (λ (x : Header). x .connection) e, ap (λ (x : Header). x .area) e, ap (λ (x : Header). x .version) e)
+    (ap (λ (x : Header). x .«record») e, ap (λ (x : Header). x .area) e, ap (λ (x : Header). x .version) e)
 
 -- the length and a block that is not looked at
 pub record Skipped (r : Record) (f : List ℕ) (h : Header) : Type 0 where
@@ -255,12 +255,12 @@ from-area a n f size filled = by (eqb n a) refl
 pub record Addressed (k : Kind) (f : List ℕ) (h : Header) : Type 0 where
   pub block : List ℕ
   pub area : List ℕ
-  pub connection : Record
+  pub «record» : Record
   pub split : f ≡ network (length (block ++ area)) ++ (block ++ area)
   pub small : length (block ++ area) < 65536
-  pub addresses : Addresses k block connection
+  pub addresses : Addresses k block «record»
   pub tlvs : WellFormed area
-  pub says : h ≡ blocked connection area
+  pub says : h ≡ blocked «record» area
 
 port-length : (k : Kind) (p : ℕ) → length (portBytes k p) ≡ portLength k
 port-length Local p = refl
@@ -312,7 +312,7 @@ to-addressed k f h l =
     record {
       block = block;
       area = l₅ .front;
-      connection = recordOf k (l₁ .mid) (l₂ .mid) (l₃ .mid) (l₄ .mid);
+      «record» = recordOf k (l₁ .mid) (l₂ .mid) (l₃ .mid) (l₄ .mid);
       split =
           l .split
           ∙ ap₂ _++_ (l .first .split ∙ ap network (sym size))
@@ -388,7 +388,7 @@ from-addressed k f h w =
 
 -- what a block says of its record, its area and its version
 abbrev pub Blocked : List ℕ → Header → Type 0
-Blocked f h = Block f (h .connection) (h .area) × (h .version ≡ 2)
+Blocked f h = Block f (h .«record») (h .area) × (h .version ≡ 2)
 
 -- behind the signature: the command and byte 13, and what follows
 abbrev Frame : ℕ → ℕ → List ℕ → List ℕ
@@ -565,7 +565,7 @@ family-rest (Unix t) f h has l = l
 members-block : (f : List ℕ) (h : Header) → Blocked f h → block .field .lang f h
 members-block f h (b, version) = by b
   where
-    by : Block f (h .connection) (h .area) → block .field .lang f h
+    by : Block f (h .«record») (h .area) → block .field .lang f h
     by (inl w) = local-member f h (w .0) (blocked-of h _ _ (w .1) (w .2) version)
     by (inr (inl w)) =
         let u = w .0 in
@@ -580,7 +580,7 @@ members-block f h (b, version) = by b
         (record {
           block = w .block;
           area = h .area;
-          connection = h .connection;
+          «record» = h .«record»;
           split = refl;
           small = w .framed .small;
           addresses = w .addresses;

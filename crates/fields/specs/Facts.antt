@@ -44,7 +44,7 @@ longest-unknown f r l =
 
 -- what an UNKNOWN line says
 abbrev pub unknownHeader : Header
-unknownHeader = record { connection = bare Unspecified; version = 1; area = [] }
+unknownHeader = record { «record» = bare Unspecified; version = 1; area = [] }
 
 -- it is reached
 pub unknown-reached : Judges (accepted unknownHeader 107) (ascii "PROXY UNKNOWN " ++ replicate 91 0 ++ ascii "\r\n")
@@ -91,7 +91,7 @@ longest-tcp6 = tcp-longest (ascii "TCP6") (Ip6 Stream) Ip6Address 39 (λ t a l. 
 -- both are reached, by the highest addresses and ports
 abbrev pub highest : Kind → ℕ → Header
 highest kind n =
-    record { connection = recordOf kind (replicate n 255) (replicate n 255) 65535 65535; version = 1; area = [] }
+    record { «record» = recordOf kind (replicate n 255) (replicate n 255) 65535 65535; version = 1; area = [] }
 
 abbrev pub highest4 : List ℕ
 highest4 = ascii "PROXY TCP4 255.255.255.255 255.255.255.255 65535 65535\r\n"
@@ -152,10 +152,10 @@ pub header-length : (f : List ℕ) (h : Header) → Whole f h → (15 ≤ length
 header-length f h w = (header-least f h w, most w)
   where
     most : Whole f h → length f ≤ 65551
-    most (inl (inl l, v, a)) = let b = longest-unknown f (h .connection) l in omega arith
-    most (inl (inr (inl l), v, a)) = let b = longest-tcp4 f (h .connection) l in omega arith
-    most (inl (inr (inr l), v, a)) = let b = longest-tcp6 f (h .connection) l in omega arith
-    most (inr w) = block-bounds f (h .connection) (h .area) (w .0) .1
+    most (inl (inl l, v, a)) = let b = longest-unknown f (h .«record») l in omega arith
+    most (inl (inr (inl l), v, a)) = let b = longest-tcp4 f (h .«record») l in omega arith
+    most (inl (inr (inr l), v, a)) = let b = longest-tcp6 f (h .«record») l in omega arith
+    most (inr w) = block-bounds f (h .«record») (h .area) (w .0) .1
 
 -- both are reached: by the shortest UNKNOWN line, and by LOCAL with 65,535 zero bytes
 pub least-reached : Whole (ascii "PROXY UNKNOWN\r\n") unknownHeader × (length (ascii "PROXY UNKNOWN\r\n") ≡ 15)
@@ -165,7 +165,7 @@ abbrev pub localZeros : ℕ → List ℕ
 localZeros n = signature ++ LOCAL ∷ 0 ∷ network n ++ replicate n 0
 
 abbrev pub localHeader : Header
-localHeader = record { connection = bare Local; version = 2; area = [] }
+localHeader = record { «record» = bare Local; version = 2; area = [] }
 
 pub local-whole : (n : ℕ) → n < 65536 → Whole (localZeros n) localHeader × (length (localZeros n) ≡ 16 + n)
 local-whole n small =
@@ -195,35 +195,35 @@ kind-of : (r x : Record) → r ≡ x → HasAddresses (r .kind) → HasAddresses
 kind-of r x e = subst (λ (y : Record). HasAddresses (y .kind)) e
 
 -- "the TLV area is given too, as the very part of the received bytes from 16 + A to the header's end"
-pub area-part : (f : List ℕ) (h : Header) → Whole f h → h .version ≡ 2 → HasAddresses (h .connection .kind)
-    → h .area ≡ drop (16 + blockLength (h .connection .kind)) f
+pub area-part : (f : List ℕ) (h : Header) → Whole f h → h .version ≡ 2 → HasAddresses (h .«record» .kind)
+    → h .area ≡ drop (16 + blockLength (h .«record» .kind)) f
 area-part f h (inl w) v has = let e = w .1 in absurd (omega arith)
-area-part f h (inr (inl w, x)) v has = absurd (kind-of (h .connection) (bare Local) (w .1) has)
-area-part f h (inr (inr (inl w), x)) v has = absurd (kind-of (h .connection) (bare Unspecified) (w .1) has)
+area-part f h (inr (inl w, x)) v has = absurd (kind-of (h .«record») (bare Local) (w .1) has)
+area-part f h (inr (inr (inl w), x)) v has = absurd (kind-of (h .«record») (bare Unspecified) (w .1) has)
 area-part f h (inr (inr (inr w), x)) v has =
-    let kind : h .connection .kind ≡ w .kind = ap (λ (x : Record). x .kind) (w .addresses .says) in
-    let a = addresses-length (w .kind) (w .block) (h .connection) (w .addresses) in
+    let kind : h .«record» .kind ≡ w .kind = ap (λ (x : Record). x .kind) (w .addresses .says) in
+    let a = addresses-length (w .kind) (w .block) (h .«record») (w .addresses) in
     let front = signature ++ PROXY ∷ w .byte13 ∷ network (length (w .block ++ h .area)) ++ w .block in
     rw (kind, w .framed .split) (sym (drop-at front (h .area) (16 + blockLength (w .kind)) (omega arith)))
 
 -- "it is empty for version 1, local, unspecified"
-pub area-empty : (f : List ℕ) (h : Header) → Whole f h → (h .version ≡ 1) ⊎ (HasAddresses (h .connection .kind) → ⊥) → h .area ≡ []
+pub area-empty : (f : List ℕ) (h : Header) → Whole f h → (h .version ≡ 1) ⊎ (HasAddresses (h .«record» .kind) → ⊥) → h .area ≡ []
 area-empty f h (inl w) none = w .2
 area-empty f h (inr (inl w, x)) none = w .2
 area-empty f h (inr (inr (inl w), x)) none = w .2
 area-empty f h (inr (inr (inr w), x)) none =
-    absurd (⊎-elim (λ v. omega arith) (λ no. no (kind-of _ (h .connection) (sym (w .addresses .says)) (w .has))) none)
+    absurd (⊎-elim (λ v. omega arith) (λ no. no (kind-of _ (h .«record») (sym (w .addresses .says)) (w .has))) none)
 
 -- "Addresses of 4, 16 or 108 bytes are held by value. Address bytes and ports that a kind does not use are zero; UNIX has no ports"
 pub record-clean : (f : List ℕ) (h : Header) → Whole f h
-    → Clean (h .connection) × (length (h .connection .source) ≡ 108) × (length (h .connection .destination) ≡ 108)
+    → Clean (h .«record») × (length (h .«record» .source) ≡ 108) × (length (h .«record» .destination) ≡ 108)
 record-clean f h (inl (inl l, v, a)) = rw (l .1) (kept Unspecified [] [] 0 0 refl refl refl refl)
 record-clean f h (inl (inr (inl l), v, a)) =
-    tcp-kept (ascii "TCP4") (Ip4 Stream) Ip4Address (λ t a l. rw (l .value)) (λ p e. e) f (h .connection) l
+    tcp-kept (ascii "TCP4") (Ip4 Stream) Ip4Address (λ t a l. rw (l .value)) (λ p e. e) f (h .«record») l
 record-clean f h (inl (inr (inr l), v, a)) =
     tcp-kept (ascii "TCP6") (Ip6 Stream) Ip6Address
     (λ t a l. let e = address-bounds t (l .groups) (l .text) .eight in rw (l .value, group-bytes (l .groups)) (omega arith))
-    (λ p e. e) f (h .connection) l
+    (λ p e. e) f (h .«record») l
 record-clean f h (inr (inl w, v)) = rw (w .1) (kept Local [] [] 0 0 refl refl refl refl)
 record-clean f h (inr (inr (inl w), v)) = rw (w .1) (kept Unspecified [] [] 0 0 refl refl refl refl)
 record-clean f h (inr (inr (inr w), v)) =

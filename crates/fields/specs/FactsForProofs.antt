@@ -63,8 +63,8 @@ block-bounds f r area (inr (inl w)) = let h = framed-length _ _ _ f (w .0 .frame
 block-bounds f r area (inr (inr w)) = let h = framed-length _ _ _ f (w .framed) in omega arith
 
 pub header-least : (f : List ℕ) (h : Header) → Whole f h → 15 ≤ length f
-header-least f h (inl w) = line-least f (h .connection) (w .0)
-header-least f h (inr w) = let b = block-bounds f (h .connection) (h .area) (w .0) in omega arith
+header-least f h (inl w) = line-least f (h .«record») (w .0)
+header-least f h (inr w) = let b = block-bounds f (h .«record») (h .area) (w .0) in omega arith
 
 -- ── the record ──
 abbrev Kept : Record → Type 0
@@ -292,11 +292,11 @@ high-lives x h size first high l =
   where
     by : (y : List ℕ) (a : Header) → Whole (x ++ y) a → Live Whole (x ++ h ∷ [])
     by y a (inl w) =
-        let p = line-first (x ++ y) (a .connection) (w .0) in
+        let p = line-first (x ++ y) (a .«record») (w .0) in
         let q = List·getD-append x y 0 0 (omega arith) in
         absurd (omega arith)
     by y a (inr w) =
-        let o = onward (x ++ y) h high (a .connection) (a .area) (w .0) in
+        let o = onward (x ++ y) h high (a .«record») (a .area) (w .0) in
         let same : x ≡ signature ++ o .command ∷ o .byte13 ∷ [] = sym (take-at x y 14 size) ∙ ap (take 14) (o .split) in
         let all : (x ++ h ∷ []) ++ o .tail ≡ signature ++ o .command ∷ o .byte13 ∷ h ∷ o .tail =
         append-snoc x h (o .tail) ∙ ap (λ (z : List ℕ). z ++ h ∷ o .tail) same

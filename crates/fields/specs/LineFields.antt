@@ -26,7 +26,7 @@ use Rattle.header.specs.Header.{Header}
 
 -- what a version 1 line says
 abbrev pub lined : Record → Header
-lined r = record { connection = r; version = 1; area = [] }
+lined r = record { «record» = r; version = 1; area = [] }
 
 -- ── the fields ──
 abbrev pub word : (k x : ℕ) (w : List ℕ) → AllBytes (x ∷ w) → Parser ℕ
@@ -247,16 +247,16 @@ module _ (x : ℕ) (small : x < 256) (kind : Kind) (Address : List ℕ → List 
         }
 
 -- ── the members of the whole line ──
-lined-of : (h : Header) (r : Record) → h .connection ≡ r → h .version ≡ 1 → h .area ≡ [] → h ≡ lined r
-lined-of h r a b c = λ i. record { connection = a i; version = b i; area = c i }
+lined-of : (h : Header) (r : Record) → h .«record» ≡ r → h .version ≡ 1 → h .area ≡ [] → h ≡ lined r
+lined-of h r a b c = λ i. record { «record» = a i; version = b i; area = c i }
 
 -- what a line says of its record, its version and its area
 abbrev pub Lined : (List ℕ → Record → Type 0) → List ℕ → Header → Type 0
-Lined L f h = L f (h .connection) × (h .version ≡ 1) × (h .area ≡ [])
+Lined L f h = L f (h .«record») × (h .version ≡ 1) × (h .area ≡ [])
 
-says-lined : (h : Header) (r : Record) → h ≡ lined r → (h .connection ≡ r) × (h .version ≡ 1) × (h .area ≡ [])
+says-lined : (h : Header) (r : Record) → h ≡ lined r → (h .«record» ≡ r) × (h .version ≡ 1) × (h .area ≡ [])
 says-lined h r e =
-    (ap (λ (x : Header). x .connection) e, ap (λ (x : Header). x .version) e, ap (λ (x : Header). x .area) e)
+    (ap (λ (x : Header). x .«record») e, ap (λ (x : Header). x .version) e, ap (λ (x : Header). x .area) e)
 
 -- the last field of a line, which says h
 fed : (h g : Header) (f : List ℕ) → lineFeed h .field .lang f g → (f ≡ 10 ∷ []) × (g ≡ h)
@@ -282,7 +282,7 @@ module _ (f : List ℕ) (h : Header) where
       let whole : l .back ≡ m .front = m .split ∙ ap (λ (r : List ℕ). m .front ++ r) (m .second .0) ∙ append-nil (m .front) in
       (inr (m .front, l .split ∙ ap₂ _++_ (l .first .0) whole, m .first .0), m .second .1)
 
-  unknown-rest : (g : List ℕ) → unknown .field .lang g h → UnknownLine (ascii "PROXY " ++ g) (h .connection)
+  unknown-rest : (g : List ℕ) → unknown .field .lang g h → UnknownLine (ascii "PROXY " ++ g) (h .«record»)
   unknown-rest g l =
       let r = ⊎-elim (short-rest (l .back)) (long-rest (l .back)) (l .second) in
       let front : ascii "PROXY " ++ g ≡ ascii "PROXY UNKNOWN" ++ l .back = rw (l .split, l .first .0) in (
@@ -292,7 +292,7 @@ module _ (f : List ℕ) (h : Header) where
         says-lined h _ (r .1) .0,
       )
 
-  rest-unknown : UnknownLine f (h .connection) → h ≡ lined (bare Unspecified) → (g : List ℕ) × (f ≡ ascii "PROXY " ++ g) × unknown .field .lang g h
+  rest-unknown : UnknownLine f (h .«record») → h ≡ lined (bare Unspecified) → (g : List ℕ) × (f ≡ ascii "PROXY " ++ g) × unknown .field .lang g h
   rest-unknown l e = ⊎-elim short long (l .0)
     where
       short : f ≡ ascii "PROXY UNKNOWN\r\n" → (g : List ℕ) × (f ≡ ascii "PROXY " ++ g) × unknown .field .lang g h

@@ -10,17 +10,17 @@ use Rattle.record.specs.declared.Record.{Record}
 use Rattle.header.specs.Line.{Line}
 use Rattle.header.specs.Block.{Block}
 
--- what a header says: the connection record, the version, and the TLV area
+-- what a header says: the record, the version, and the TLV area
 pub record Header : Type 0 where
-  pub connection : Record
+  pub «record» : Record
   pub version : ℕ
   pub area : List ℕ
 
 -- "a version 1 line with its CR LF, or the 16 + L bytes of version 2, that keeps the rules of its section"
 abbrev pub Whole : List ℕ → Header → Type 0
 Whole f h =
-    (Line f (h .connection) × (h .version ≡ 1) × (h .area ≡ []))
-    ⊎ (Block f (h .connection) (h .area) × (h .version ≡ 2))
+    (Line f (h .«record») × (h .version ≡ 1) × (h .area ≡ []))
+    ⊎ (Block f (h .«record») (h .area) × (h .version ≡ 2))
 
 -- how many parts of a line have ended: each ends with a space or a CR
 abbrev pub partsEnded : List ℕ → ℕ

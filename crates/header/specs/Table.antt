@@ -20,7 +20,7 @@ W02 = ascii "PROXY TCP4 192.168.0.1 192.168.0.11 56324 443\r\n"
 
 abbrev pub tester : Header
 tester =
-    record { connection = recordOf (Ip4 Stream) (192 ∷ 168 ∷ 0 ∷ 1 ∷ []) (192 ∷ 168 ∷ 0 ∷ 11 ∷ []) 56324 443; version = 1; area = [] }
+    record { «record» = recordOf (Ip4 Stream) (192 ∷ 168 ∷ 0 ∷ 1 ∷ []) (192 ∷ 168 ∷ 0 ∷ 11 ∷ []) 56324 443; version = 1; area = [] }
 
 -- "a is twelve address bytes": those of W02
 abbrev pub a : List ℕ
@@ -36,7 +36,7 @@ table =
     ∷ record { bytes = W02 ++ ascii "GET "; answer = accepted tester 47 }
     ∷ record {
       bytes = ascii "PROXY UNKNOWN\r\n";
-      answer = accepted (record { connection = bare Unspecified; version = 1; area = [] }) 15;
+      answer = accepted (record { «record» = bare Unspecified; version = 1; area = [] }) 15;
     }
     ∷ record { bytes = ascii "PROXY TCP4 256"; answer = refused 3 13 }
     ∷ record { bytes = ascii "PROXY TCP4 01"; answer = refused 3 12 }
@@ -44,17 +44,17 @@ table =
     ∷ record { bytes = ascii "GET"; answer = refused 1 0 }
     ∷ record {
       bytes = ascii "PROXY TCP6 :: :: 0 0\r\n";
-      answer = accepted (record { connection = recordOf (Ip6 Stream) zeros zeros 0 0; version = 1; area = [] }) 22;
+      answer = accepted (record { «record» = recordOf (Ip6 Stream) zeros zeros 0 0; version = 1; area = [] }) 22;
     }
     ∷ record {
       bytes = signature ++ 0x20 ∷ 0xFF ∷ 0x00 ∷ 0x00 ∷ [];
-      answer = accepted (record { connection = bare Local; version = 2; area = [] }) 16;
+      answer = accepted (record { «record» = bare Local; version = 2; area = [] }) 16;
     }
     ∷ record { bytes = signature ++ 0x30 ∷ []; answer = refused 6 12 }
     ∷ record { bytes = signature ++ 0x21 ∷ 0x11 ∷ 0x00 ∷ 0x0D ∷ []; answer = refused 8 15 }
     ∷ record {
       bytes = signature ++ 0x21 ∷ 0x11 ∷ 0x00 ∷ 0x0F ∷ a ++ 0x04 ∷ 0x00 ∷ 0x00 ∷ [];
-      answer = accepted (record { connection = tester .connection; version = 2; area = 0x04 ∷ 0x00 ∷ 0x00 ∷ [] }) 31;
+      answer = accepted (record { «record» = tester .«record»; version = 2; area = 0x04 ∷ 0x00 ∷ 0x00 ∷ [] }) 31;
     }
     ∷ record { bytes = signature ++ 0x21 ∷ 0x11 ∷ 0x00 ∷ 0x0F ∷ a ++ 0x04 ∷ 0x00 ∷ 0x01 ∷ []; answer = refused 9 30 } ∷ []
 

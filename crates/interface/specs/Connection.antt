@@ -29,10 +29,10 @@ givenRecord k b =
 
 -- what a writer is asked for: 18 for another length, 17 for an unknown kind code, as the stored form's reader says
 abbrev pub refusedWith : ℕ → Asked
-refusedWith n = record { number = n; connection = bare Unspecified }
+refusedWith n = record { number = n; «record» = bare Unspecified }
 
 abbrev pub byKind : Option Kind → List ℕ → Asked
-byKind (some k) b = record { number = 0; connection = givenRecord k b }
+byKind (some k) b = record { number = 0; «record» = givenRecord k b }
 byKind none b = refusedWith 17
 
 abbrev pub request : List ℕ → Asked

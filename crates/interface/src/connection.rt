@@ -95,21 +95,21 @@ pub fn put_seen(bytes: &[u8], seen: Seen, out: &mut [u8])
 }
 
 // Puts a record's connection, where the output has room for it; else it stays as it is.
-pub fn put_record(caller: Record, out: &mut [u8])
-    ensures { λ _. ⌜ now (out .exit) ≡ toldIn connectionSize (connectionBytes caller) (now (out .entry)) ⌝ }
+pub fn put_record(record: Record, out: &mut [u8])
+    ensures { λ _. ⌜ now (out .exit) ≡ toldIn connectionSize (connectionBytes «record») (now (out .entry)) ⌝ }
 {
     if out.len() < CONNECTION {
         return;
     }
-    let kind = caller.kind;
-    let source = caller.source;
-    let destination = caller.destination;
+    let kind = record.kind;
+    let source = record.source;
+    let destination = record.destination;
     put_connection(
         kind,
         &source,
         &destination,
-        caller.source_port,
-        caller.destination_port,
+        record.source_port,
+        record.destination_port,
         out,
     );
 }
@@ -144,7 +144,7 @@ fn connection_of(kind: Kind, bytes: &[u8]) -> Record
 // What a writer is asked for: a record, or the number that refuses it before its record is looked at.
 pub struct Asked {
     pub number: u32,
-    pub connection: Record,
+    pub record: Record,
 }
 
 // What the bytes of a connection ask for: 18 for another length, 17 for an unknown kind code.
@@ -154,17 +154,17 @@ pub fn request(bytes: &[u8]) -> Asked
     if bytes.len() != CONNECTION {
         return Asked {
             number: 18,
-            connection: blank(Kind::Unspecified),
+            record: blank(Kind::Unspecified),
         };
     }
     match kind_of(bytes[0]) {
         Family::Known(kind) => Asked {
             number: 0,
-            connection: connection_of(kind, bytes),
+            record: connection_of(kind, bytes),
         },
         Family::Unknown => Asked {
             number: 17,
-            connection: blank(Kind::Unspecified),
+            record: blank(Kind::Unspecified),
         },
     }
 }

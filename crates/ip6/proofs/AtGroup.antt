@@ -10,11 +10,11 @@ use Rattle.exact.specs.Machine.{dead}
 use Rattle.exact.specs.declared.Scan.{Scan}
 use Rattle.exact.specs.declared.Scan.the-variants.{Refused}
 use Rattle.ip6.specs.Address.{hexOf}
-use Rattle.ip6.specs.Machine.{Seen, digits, behind, inside, follow}
+use Rattle.ip6.specs.Machine.{Gathered, digits, behind, inside, follow}
 use Rattle.ip6.specs.Steps.{inside-digit, inside-follow}
-use Rattle.ip6.specs.Partial.{Partial, Sized, seenOf}
+use Rattle.ip6.specs.Partial.{Partial, Sized, gatheredOf}
 use Rattle.ip6.specs.Answer.{From}
-use Rattle.ip6.proofs.Seen.{pushed, push-seen}
+use Rattle.ip6.proofs.Gathered.{pushed, push-seen}
 use Rattle.ip6.proofs.Turn.{refuses, passes, likewise}
 
 -- ── four digits make a number of 16 bits ──
@@ -29,31 +29,31 @@ pub digits-more : (n v d : ℕ) → v < 16 ^ n → d < 16 → v * 16 + d < 16 ^ 
 digits-more n v d h k = rw add-one (omega arith)
 
 -- ── the answers ──
-inside-none : (end c : ℕ) (p : Seen) (n v : ℕ) → hexOf c ≡ 16 → n ≡ 0 → inside end p n v c ≡ dead
+inside-none : (end c : ℕ) (p : Gathered) (n v : ℕ) → hexOf c ≡ 16 → n ≡ 0 → inside end p n v c ≡ dead
 inside-none end c p n v a z = simp (le-ltb (hexOf c) 16 (omega arith), eq-eqb n 0 z)
 
-inside-long : (end c : ℕ) (p : Seen) (n v : ℕ) → hexOf c < 16 → n ≡ 4 → inside end p n v c ≡ dead
+inside-long : (end c : ℕ) (p : Gathered) (n v : ℕ) → hexOf c < 16 → n ≡ 4 → inside end p n v c ≡ dead
 inside-long end c p n v a z = simp (lt-ltb (hexOf c) 16 a, le-ltb n 4 (omega arith))
 
 module _ {end : ℕ} {s : List ℕ} {i : ℕ} {g : List ℕ} where
   -- no digit
-  pub group-none : {p : Seen} {n v : ℕ} → i < length s → hexOf (getD s i 0) ≡ 16 → n ≡ 0 → From end s i (digits p n v) (Refused i) g
+  pub group-none : {p : Gathered} {n v : ℕ} → i < length s → hexOf (getD s i 0) ≡ 16 → n ≡ 0 → From end s i (digits p n v) (Refused i) g
   group-none {p} {n} {v} h a z = refuses h (inside-none end (getD s i 0) p n v a z)
 
   -- a fifth digit
-  pub group-long : {p : Seen} {n v : ℕ} → i < length s → hexOf (getD s i 0) < 16 → n ≡ 4 → From end s i (digits p n v) (Refused i) g
+  pub group-long : {p : Gathered} {n v : ℕ} → i < length s → hexOf (getD s i 0) < 16 → n ≡ 4 → From end s i (digits p n v) (Refused i) g
   group-long {p} {n} {v} h a z = refuses h (inside-long end (getD s i 0) p n v a z)
 
   -- one digit more
-  pub group-digit : {p : Seen} {n v : ℕ} {t : Scan} → i < length s → hexOf (getD s i 0) < 16 → n < 4
+  pub group-digit : {p : Gathered} {n v : ℕ} {t : Scan} → i < length s → hexOf (getD s i 0) < 16 → n < 4
       → From end s (i + 1) (digits p (n + 1) (v * 16 + hexOf (getD s i 0))) t g → From end s i (digits p n v) t g
   group-digit {p} {n} {v} h a few f = passes h (inside-digit end p n v (getD s i 0) a few) f
 
   -- the group has ended
   pub group-ends : {x : Partial} {n v : ℕ} {t : Scan} → Sized x → x .count < 8 → i < length s → hexOf (getD s i 0) ≡ 16 → (n ≡ 0 → ⊥)
-      → From end s i (behind (seenOf (pushed x v))) t g → From end s i (digits (seenOf x) n v) t g
+      → From end s i (behind (gatheredOf (pushed x v))) t g → From end s i (digits (gatheredOf x) n v) t g
   group-ends {x} {n} {v} sized few h a some f =
       likewise h
-      (inside-follow end (seenOf x) n v (getD s i 0) (λ d. omega arith) some
-      ∙ ap (λ (q : Seen). follow end q (getD s i 0)) (sym (push-seen x sized few v)))
+      (inside-follow end (gatheredOf x) n v (getD s i 0) (λ d. omega arith) some
+      ∙ ap (λ (q : Gathered). follow end q (getD s i 0)) (sym (push-seen x sized few v)))
       f

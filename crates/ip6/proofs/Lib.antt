@@ -1,5 +1,5 @@
 pub mod Spread
-pub mod Seen
+pub mod Gathered
 pub mod Turn
 pub mod AtGroup
 pub mod AtColon

@@ -10,7 +10,7 @@ use Rattle.exact.specs.Machine.{done, dead}
 use Rattle.ip6.specs.Partial.{Partial}
 use Rattle.ip6.specs.Address.{filled}
 use Rattle.ip6.specs.Machine.{finish}
-use Rattle.ip6.specs.Partial.{seenAt, seenOf, Sized, spreadAt, spread}
+use Rattle.ip6.specs.Partial.{seenAt, gatheredOf, Sized, spreadAt, spread}
 
 zeros-snoc : (m : ℕ) → _≡_ {A = List ℕ} (0 ∷ replicate m 0) (replicate m 0 ++ 0 ∷ [])
 zeros-snoc zero = refl
@@ -83,12 +83,12 @@ module _ (x : Partial) (h : Sized x) where
   pub count-length : length (take (x .count) (x .groups)) ≡ x .count
   count-length = held-length (x .groups) (x .count) (h .eight) (h .most)
 
-  pub finish-full : x .gap ≡ 0 → x .count ≡ 8 → finish (seenOf x) ≡ done (x .groups)
+  pub finish-full : x .gap ≡ 0 → x .count ≡ 8 → finish (gatheredOf x) ≡ done (x .groups)
   finish-full g n =
       let e : take (x .count) (x .groups) ≡ x .groups = take-all (x .count) (x .groups) (let a = h .eight in omega arith) in
       rw (g, e) (simp (eq-eqb (length (x .groups)) 8 (h .eight)))
 
-  pub finish-few : x .gap ≡ 0 → (x .count ≡ 8 → ⊥) → finish (seenOf x) ≡ dead
+  pub finish-few : x .gap ≡ 0 → (x .count ≡ 8 → ⊥) → finish (gatheredOf x) ≡ dead
   finish-few g n =
       let e = count-length in
       rw g (simp (ne-eqb (length (take (x .count) (x .groups))) 8 (λ z. n (omega arith))))
@@ -111,9 +111,9 @@ module _ (x : Partial) (h : Sized x) where
       in
       rw (zeros, left, e, last) (simp append-assoc)
 
-  pub finish-gapped : (x .gap ≡ 0 → ⊥) → finish (seenOf x) ≡ done (spread x)
+  pub finish-gapped : (x .gap ≡ 0 → ⊥) → finish (gatheredOf x) ≡ done (spread x)
   finish-gapped some = by (x .gap) refl
     where
-      by : (g : ℕ) → x .gap ≡ g → finish (seenOf x) ≡ done (spread x)
+      by : (g : ℕ) → x .gap ≡ g → finish (gatheredOf x) ≡ done (spread x)
       by zero e = absurd (some e)
       by (suc g) e = ap (λ (n : ℕ). finish (seenAt n (take (x .count) (x .groups)))) e ∙ ap done (spread-filled g e)

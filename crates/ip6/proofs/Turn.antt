@@ -9,7 +9,7 @@ use Rattle.exact.specs.Pick.{pick-by}
 use Rattle.exact.specs.declared.Scan.{Scan}
 use Rattle.exact.specs.Machine.{Move, go, done, dead, from, from-go, from-done, from-dead, from-end}
 use Rattle.exact.specs.declared.Scan.the-variants.{More, Refused}
-use Rattle.ip6.specs.Machine.{Seen, plain, gapped, State, finish, step}
+use Rattle.ip6.specs.Machine.{Gathered, plain, gapped, State, finish, step}
 use Rattle.ip6.specs.Answer.{From, closed, Closed}
 
 -- ── the verdict from a place on, by the move there ──
@@ -24,7 +24,7 @@ module _ (end : ℕ) (s : List ℕ) (i : ℕ) (k : ℕ) where
   by-move q (done vs) h e = from-done k (step end) s i q vs h e
   by-move q dead h e = from-dead k (step end) s i q h e
 
-  closed-moves : (n : Seen) → closed k i (finish n) ≡ moves (finish n)
+  closed-moves : (n : Gathered) → closed k i (finish n) ≡ moves (finish n)
   closed-moves (plain l) =
       pick-by (λ (m : Move State (List ℕ)). closed k i m ≡ moves m) (eqb (length l) 8) (λ t. refl) (λ t. refl)
   closed-moves (gapped l m) = refl
@@ -53,7 +53,7 @@ module _ {end : ℕ} {s : List ℕ} {i : ℕ} {q : State} {g : List ℕ} where
         }
 
     -- the byte that ends the address
-    pub closes : {n : Seen} → i < length s → step end q (getD s i 0) ≡ finish n → Closed i n t g → From end s i q t g
+    pub closes : {n : Gathered} → i < length s → step end q (getD s i 0) ≡ finish n → Closed i n t g → From end s i q t g
     closes {n} h e f =
         record {
           verdict = λ k. f .verdict k ∙ closed-moves end s i k n ∙ sym (by-move end s i k q (finish n) h e);

@@ -6,8 +6,8 @@ use Rattle.exact.specs.Claim.{Verdict, accepted, more, refused}
 use Rattle.exact.specs.Machine.{Move, go, done, dead, from}
 use Rattle.exact.specs.declared.Scan.{Scan}
 use Rattle.exact.specs.declared.Scan.the-variants.{Accepted, More, Refused}
-use Rattle.ip6.specs.Machine.{Seen, State, finish, step}
-use Rattle.exact.specs.Told.{heard}
+use Rattle.ip6.specs.Machine.{Gathered, State, finish, step}
+use Rattle.exact.specs.Scans.{heard}
 
 -- the answer that a number and a place say: 0 accepted, with the address's length; 1 more; from 2 on refused at the place
 abbrev pub scanOf : ℕ → ℕ → Scan
@@ -33,6 +33,6 @@ closed k i (done vs) = accepted vs (i + 1)
 closed k i dead = refused k i
 
 -- the machine's answer where the address ends at the place i, behind the groups n
-pub record Closed (i : ℕ) (n : Seen) (t : Scan) (groups : List ℕ) : Type 0 where
+pub record Closed (i : ℕ) (n : Gathered) (t : Scan) (groups : List ℕ) : Type 0 where
   pub verdict : (k : ℕ) → heard k t groups ≡ closed k i (finish n)
   pub bare : Bare t

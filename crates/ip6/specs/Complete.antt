@@ -9,7 +9,7 @@ use lib.ListN.{length}
 use borrow.Author.Tests.{eqb-true, eqb-false, lt-ltb}
 use Rattle.ip6.specs.Address.{hexOf, filled, Ending}
 use Rattle.ip6.specs.Hex.{hex-zero}
-use Rattle.ip6.specs.Machine.{Seen, plain, gapped, push, room, State, start, digits, behind, colon, gap, inside, step}
+use Rattle.ip6.specs.Machine.{Gathered, plain, gapped, push, room, State, start, digits, behind, colon, gap, inside, step}
 use Rattle.ip6.specs.Read.{Fits, fits-push, Good}
 use Rattle.ip6.specs.Steps.{colon-no-digit, Takes, goes, ends, alike, colon-colon, gap-end, follow-colon, follow-end, inside-digit, inside-follow}
 
@@ -24,10 +24,10 @@ module _ (end : ℕ) (e : Ending end) where
   colon-completes l = let r = gap-completes l in (58 ∷ r .0, r .1, goes end (colon (plain l)) (gap l) 58 (r .0) (r .1) (colon-colon end l) (r .2))
 
   -- behind a group, by a byte that is no digit
-  abbrev Closes : Seen → Type 0
+  abbrev Closes : Gathered → Type 0
   Closes s = (c : ℕ) × (f : List ℕ) × (vs : List ℕ) × (hexOf c < 16 → ⊥) × Takes end (behind s) (c ∷ f) vs
 
-  behind-closes : (s : Seen) → Fits s → Closes s
+  behind-closes : (s : Gathered) → Fits s → Closes s
   behind-closes (plain l) h = by (eqb (length l) 8) refl
     where
       by : (b : Bool) → eqb (length l) 8 ≡ b → Closes (plain l)
@@ -40,13 +40,13 @@ module _ (end : ℕ) (e : Ending end) where
   behind-closes (gapped l r) h = (end, [], filled l r, e .no-digit, ends end (behind (gapped l r)) end (filled l r) (follow-end end e (gapped l r)))
 
   -- in a group, behind a digit
-  digits-completes : (s : Seen) (n v : ℕ) → room s ≡ true → (n ≡ 0 → ⊥) → Completes (digits s n v)
+  digits-completes : (s : Gathered) (n v : ℕ) → room s ≡ true → (n ≡ 0 → ⊥) → Completes (digits s n v)
   digits-completes s n v h some =
       let r = behind-closes (push s v) (fits-push s v h) in
       (r .0 ∷ r .1, r .2, alike end (digits s n v) (behind (push s v)) (r .0) (r .1) (r .2) (inside-follow end s n v (r .0) (r .3) some) (r .4))
 
   -- where a digit may follow, "0" does
-  zero-completes : (q : State) (s : Seen) (n v : ℕ) → step end q 48 ≡ inside end s n v 48 → room s ≡ true → n < 4 → Completes q
+  zero-completes : (q : State) (s : Gathered) (n v : ℕ) → step end q 48 ≡ inside end s n v 48 → room s ≡ true → n < 4 → Completes q
   zero-completes q s n v t h few =
       let r = digits-completes s (n + 1) (v * 16 + hexOf 48) h (λ z. omega arith) in (
         48 ∷ r .0,
@@ -55,7 +55,7 @@ module _ (end : ℕ) (e : Ending end) where
             (t ∙ inside-digit end s n v 48 (let z = hex-zero in omega arith) few) (r .2),
       )
 
-  inside-completes : (s : Seen) (n v : ℕ) (b : Bool) → eqb n 0 ≡ b → room s ≡ true → Completes (digits s n v)
+  inside-completes : (s : Gathered) (n v : ℕ) (b : Bool) → eqb n 0 ≡ b → room s ≡ true → Completes (digits s n v)
   inside-completes s n v true t h = zero-completes (digits s n v) s n v refl h (let z = eqb-true n 0 t in omega arith)
   inside-completes s n v false t h = digits-completes s n v h (eqb-false n 0 t)
 

@@ -1,6 +1,6 @@
 pub mod Address
 pub mod Bounds
-pub mod Told
+pub mod ScannedAddress
 pub mod Machine
 pub mod Hex
 pub mod Steps

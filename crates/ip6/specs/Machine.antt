@@ -9,41 +9,41 @@ use Rattle.exact.specs.Pick.{pick}
 use Rattle.ip6.specs.Address.{hexOf, filled}
 
 -- the groups so far: all of them while no "::" has come; those before it and those behind it
-pub data Seen : Type 0 where
-  plain : List ℕ → Seen
-  gapped : List ℕ → List ℕ → Seen
+pub data Gathered : Type 0 where
+  plain : List ℕ → Gathered
+  gapped : List ℕ → List ℕ → Gathered
 
-abbrev pub push : Seen → ℕ → Seen
+abbrev pub push : Gathered → ℕ → Gathered
 push (plain l) v = plain (l ++ v ∷ [])
 push (gapped l r) v = gapped l (r ++ v ∷ [])
 
 -- a group may follow
-abbrev pub room : Seen → Bool
+abbrev pub room : Gathered → Bool
 room (plain l) = ltb (length l) 8
 room (gapped l r) = ltb (length l + length r) 7
 
 pub data State : Type 0 where
   start : State
   -- in a group, or where one must begin: the groups before it, how many digits it has, and what they make
-  digits : Seen → ℕ → ℕ → State
+  digits : Gathered → ℕ → ℕ → State
   -- a group has ended
-  behind : Seen → State
+  behind : Gathered → State
   -- behind a colon; it is the first byte where no group has come
-  colon : Seen → State
+  colon : Gathered → State
   -- behind "::"
   gap : List ℕ → State
 
-abbrev pub finish : Seen → Move State (List ℕ)
+abbrev pub finish : Gathered → Move State (List ℕ)
 finish (plain l) = pick (eqb (length l) 8) (done l) dead
 finish (gapped l r) = done (filled l r)
 
 module _ (end : ℕ) where
   -- behind a group
-  abbrev pub follow : Seen → ℕ → Move State (List ℕ)
+  abbrev pub follow : Gathered → ℕ → Move State (List ℕ)
   follow s c = pick (eqb c 58) (pick (room s) (go (colon s)) dead) (pick (eqb c end) (finish s) dead)
 
   -- in a group
-  abbrev pub inside : Seen → ℕ → ℕ → ℕ → Move State (List ℕ)
+  abbrev pub inside : Gathered → ℕ → ℕ → ℕ → Move State (List ℕ)
   inside s n v c =
       pick (ltb (hexOf c) 16) (pick (ltb n 4) (go (digits s (n + 1) (v * 16 + hexOf c))) dead)
       (pick (eqb n 0) dead (follow (push s v) c))

@@ -3,7 +3,7 @@ use mathlib.Core.Path.{_≡_}
 use mathlib.Core.List.{List, _++_}
 use Prim.Native.Nat.{ℕ, zero, suc, _-_, _≤_}
 use lib.ListN.{length, take, drop, getD, replicate}
-use Rattle.ip6.specs.Machine.{Seen, plain, gapped}
+use Rattle.ip6.specs.Machine.{Gathered, plain, gapped}
 
 -- the first `count` groups, of which the first `gap` end with "::"
 pub record Partial : Type 0 where
@@ -22,12 +22,12 @@ pub record Sized (x : Partial) : Type 0 where
   -- the group that "::" counts as
   pub zero-there : (g : ℕ) → x .gap ≡ suc g → getD (x .groups) g 0 ≡ 0
 
-abbrev pub seenAt : ℕ → List ℕ → Seen
+abbrev pub seenAt : ℕ → List ℕ → Gathered
 seenAt zero l = plain l
 seenAt (suc g) l = gapped (take g l) (drop (suc g) l)
 
-abbrev pub seenOf : Partial → Seen
-seenOf x = seenAt (x .gap) (take (x .count) (x .groups))
+abbrev pub gatheredOf : Partial → Gathered
+gatheredOf x = seenAt (x .gap) (take (x .count) (x .groups))
 
 -- the eight groups that n groups stand for, where zeros come behind the first i
 abbrev pub spreadAt : List ℕ → ℕ → ℕ → List ℕ

@@ -12,7 +12,7 @@ use Rattle.exact.specs.Ended.{Ended}
 use Rattle.exact.specs.Machine.{Move, go, done, dead, Ends, Runs}
 use Rattle.exact.specs.Pick.{pick-by}
 use Rattle.ip6.specs.Address.{hexOf, HexDigits, number, Group, Groups, Side, Address}
-use Rattle.ip6.specs.Machine.{Seen, plain, gapped, push, room, State, start, digits, behind, colon, gap, finish, follow, inside, step}
+use Rattle.ip6.specs.Machine.{Gathered, plain, gapped, push, room, State, start, digits, behind, colon, gap, finish, follow, inside, step}
 
 -- ── what a move leads to ──
 abbrev pub Leads : {Q A : Type 0} → (Q → Type 0) → (A → Type 0) → Move Q A → Type 0
@@ -42,28 +42,28 @@ Before p [] = p ≡ []
 Before p (v ∷ l) = (f : List ℕ) × (p ≡ f ++ 58 ∷ []) × Groups f (v ∷ l)
 
 -- a group begins behind p
-abbrev pub Opening : Seen → List ℕ → Type 0
+abbrev pub Opening : Gathered → List ℕ → Type 0
 Opening (plain l) p = Before p l
 Opening (gapped l r) p = (left : List ℕ) × (tail : List ℕ) × (p ≡ left ++ 58 ∷ 58 ∷ tail) × Side left l × Before tail r
 
 -- a group ends p, or nothing has been read
-abbrev pub Closed : Seen → List ℕ → Type 0
+abbrev pub Closed : Gathered → List ℕ → Type 0
 Closed (plain l) p = Side p l
 Closed (gapped l r) p = (left : List ℕ) × (right : List ℕ) × (p ≡ left ++ 58 ∷ 58 ∷ right) × Side left l × Groups right r
 
 -- a colon ends p
-abbrev pub Led : Seen → List ℕ → Type 0
+abbrev pub Led : Gathered → List ℕ → Type 0
 Led (plain []) p = p ≡ 58 ∷ []
 Led (plain (v ∷ l)) p = Opening (plain (v ∷ l)) p
 Led (gapped l r) p = Opening (gapped l r) p
 
 -- as many groups as an address may have
-abbrev pub Fits : Seen → Type 0
+abbrev pub Fits : Gathered → Type 0
 Fits (plain l) = length l ≤ 8
 Fits (gapped l r) = length l + length r ≤ 7
 
 -- in a group, or where one begins
-pub record Inside (s : Seen) (n v : ℕ) (p : List ℕ) : Type 0 where
+pub record Inside (s : Gathered) (n v : ℕ) (p : List ℕ) : Type 0 where
   pub front : List ℕ
   pub text : List ℕ
   pub split : p ≡ front ++ text
@@ -100,19 +100,19 @@ side : (l f : List ℕ) → Groups f l → Side f l
 side [] f a = absurd a
 side (v ∷ l) f a = a
 
-closes : (s : Seen) (p g : List ℕ) (v : ℕ) → Opening s p → Group g v → Closed (push s v) (p ++ g)
+closes : (s : Gathered) (p g : List ℕ) (v : ℕ) → Opening s p → Group g v → Closed (push s v) (p ++ g)
 closes (plain l) p g v a b = side (l ++ v ∷ []) (p ++ g) (grouped l p g v a b)
 closes (gapped l r) p g v a b =
     (a .0, a .1 ++ g, rw (a .2) (simp append-assoc), a .3, grouped r (a .1) g v (a .4) b)
 
 -- a colon behind them
-led : (s : Seen) (p : List ℕ) → Closed s p → Led s (p ++ 58 ∷ [])
+led : (s : Gathered) (p : List ℕ) → Closed s p → Led s (p ++ 58 ∷ [])
 led (plain []) p a = rw a
 led (plain (v ∷ l)) p a = (p, refl, a)
 led (gapped l []) p a = absurd (a .4)
 led (gapped l (v ∷ r)) p a = (a .0, a .1 ++ 58 ∷ [], rw (a .2) (simp append-assoc), a .3, (a .1, refl, a .4))
 
-pub fits-push : (s : Seen) (v : ℕ) → room s ≡ true → Fits (push s v)
+pub fits-push : (s : Gathered) (v : ℕ) → room s ≡ true → Fits (push s v)
 fits-push (plain l) v h = let w = ltb-true (length l) 8 h in simp length-append (omega arith)
 fits-push (gapped l r) v h = let w = ltb-true (length l + length r) 7 h in simp length-append (omega arith)
 
@@ -125,7 +125,7 @@ number-snoc : (ds : List ℕ) (c v : ℕ) → number v (ds ++ c ∷ []) ≡ numb
 number-snoc [] c v = refl
 number-snoc (d ∷ ds) c v = number-snoc ds c (v * 16 + hexOf d)
 
-whole-group : (s : Seen) (n v : ℕ) (p : List ℕ) (a : Inside s n v p) → (n ≡ 0 → ⊥) → Group (a .text) v
+whole-group : (s : Gathered) (n v : ℕ) (p : List ℕ) (a : Inside s n v p) → (n ≡ 0 → ⊥) → Group (a .text) v
 whole-group s n v p a more =
     let z = a .size in
     let f = a .few in
@@ -140,7 +140,7 @@ module _ (end : ℕ) where
   abbrev Now : List ℕ → Move State (List ℕ) → Type 0
   Now p = Leads (λ q. Reads q p) (Ended Address end p)
 
-  now-finish : (s : Seen) (p : List ℕ) → Closed s p → Fits s → Now (p ++ end ∷ []) (finish s)
+  now-finish : (s : Gathered) (p : List ℕ) → Closed s p → Fits s → Now (p ++ end ∷ []) (finish s)
   now-finish (plain l) p a h =
       pick-by (Now (p ++ end ∷ [])) (eqb (length l) 8)
       (λ t.
@@ -164,13 +164,13 @@ module _ (end : ℕ) where
         });
       }
 
-  now-follow : (s : Seen) (p : List ℕ) (c : ℕ) → Closed s p → Fits s → Now (p ++ c ∷ []) (follow end s c)
+  now-follow : (s : Gathered) (p : List ℕ) (c : ℕ) → Closed s p → Fits s → Now (p ++ c ∷ []) (follow end s c)
   now-follow s p c a h =
       pick-by (Now (p ++ c ∷ [])) (eqb c 58)
       (λ t. pick-by (Now (p ++ c ∷ [])) (room s) (λ r. (rw (eqb-true c 58 t) (led s p a), r)) (λ r. tt))
       (λ t. pick-by (Now (p ++ c ∷ [])) (eqb c end) (λ e. rw (eqb-true c end e) (now-finish s p a h)) (λ e. tt))
 
-  now-inside : (s : Seen) (n v : ℕ) (p : List ℕ) (c : ℕ) → Inside s n v p → Now (p ++ c ∷ []) (inside end s n v c)
+  now-inside : (s : Gathered) (n v : ℕ) (p : List ℕ) (c : ℕ) → Inside s n v p → Now (p ++ c ∷ []) (inside end s n v c)
   now-inside s n v p c a =
       pick-by (Now (p ++ c ∷ [])) (ltb (hexOf c) 16)
       (λ t.
@@ -196,7 +196,7 @@ module _ (end : ℕ) where
       (fits-push s v (a .room-here))))
 
   -- where a group begins
-  now-begin : (s : Seen) (p : List ℕ) (c : ℕ) → Opening s p → room s ≡ true → Now (p ++ c ∷ []) (inside end s 0 0 c)
+  now-begin : (s : Gathered) (p : List ℕ) (c : ℕ) → Opening s p → room s ≡ true → Now (p ++ c ∷ []) (inside end s 0 0 c)
   now-begin s p c o r =
       now-inside s 0 0 p c
       (record {

@@ -8,7 +8,7 @@ use borrow.Author.Tests.{lt-ltb, le-ltb, eq-eqb, ne-eqb}
 use Rattle.exact.specs.Machine.{go, done, dead, Runs, runs-at}
 use Rattle.ip6.specs.Address.{hexOf, filled, Ending}
 use Rattle.ip6.specs.Hex.{hex-colon}
-use Rattle.ip6.specs.Machine.{Seen, plain, push, room, State, digits, colon, gap, finish, follow, inside, step}
+use Rattle.ip6.specs.Machine.{Gathered, plain, push, room, State, digits, colon, gap, finish, follow, inside, step}
 
 pub colon-no-digit : hexOf 58 < 16 → ⊥
 colon-no-digit h = let e = hex-colon in omega arith
@@ -38,17 +38,17 @@ module _ (end : ℕ) where
   pub gap-end : (l : List ℕ) → step end (gap l) end ≡ done (filled l [])
   gap-end l = simp (eq-eqb end end refl)
 
-  pub follow-colon : (s : Seen) → room s ≡ true → follow end s 58 ≡ go (colon s)
+  pub follow-colon : (s : Gathered) → room s ≡ true → follow end s 58 ≡ go (colon s)
   follow-colon s r = rw r
 
-  pub follow-end : Ending end → (s : Seen) → follow end s end ≡ finish s
+  pub follow-end : Ending end → (s : Gathered) → follow end s end ≡ finish s
   follow-end e s = simp (ne-eqb end 58 (e .no-colon), eq-eqb end end refl)
 
-  pub inside-digit : (s : Seen) (n v c : ℕ) → hexOf c < 16 → n < 4 → inside end s n v c ≡ go (digits s (n + 1) (v * 16 + hexOf c))
+  pub inside-digit : (s : Gathered) (n v c : ℕ) → hexOf c < 16 → n < 4 → inside end s n v c ≡ go (digits s (n + 1) (v * 16 + hexOf c))
   inside-digit s n v c h few = simp (lt-ltb (hexOf c) 16 h, lt-ltb n 4 few)
 
-  pub inside-follow : (s : Seen) (n v c : ℕ) → (hexOf c < 16 → ⊥) → (n ≡ 0 → ⊥) → inside end s n v c ≡ follow end (push s v) c
+  pub inside-follow : (s : Gathered) (n v c : ℕ) → (hexOf c < 16 → ⊥) → (n ≡ 0 → ⊥) → inside end s n v c ≡ follow end (push s v) c
   inside-follow s n v c h some = simp (le-ltb (hexOf c) 16 (omega arith), ne-eqb n 0 some)
 
-  pub begin-other : (s : Seen) (c : ℕ) → (hexOf c < 16 → ⊥) → inside end s 0 0 c ≡ dead
+  pub begin-other : (s : Gathered) (c : ℕ) → (hexOf c < 16 → ⊥) → inside end s 0 0 c ≡ dead
   begin-other s c h = simp (le-ltb (hexOf c) 16 (omega arith))

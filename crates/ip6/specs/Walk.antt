@@ -11,31 +11,31 @@ use borrow.Author.Tests.{ltb-true, lt-ltb, eq-eqb, ne-eqb}
 use Rattle.exact.specs.Ended.{Ended}
 use Rattle.exact.specs.Machine.{dead, Runs, runs-at}
 use Rattle.ip6.specs.Address.{hexOf, HexDigits, number, Group, Groups, Full, Side, filled, Shortened, Address, Ending}
-use Rattle.ip6.specs.Machine.{Seen, plain, gapped, push, room, State, start, digits, behind, colon, gap, inside, step}
+use Rattle.ip6.specs.Machine.{Gathered, plain, gapped, push, room, State, start, digits, behind, colon, gap, inside, step}
 use Rattle.ip6.specs.Read.{Fits}
 use Rattle.ip6.specs.Steps.{colon-no-digit, digit-no-colon, Takes, goes, ends, alike, gap-end, follow-colon, follow-end, inside-digit, inside-follow}
 
 -- groups behind those seen
-abbrev all : Seen → List ℕ → Seen
+abbrev all : Gathered → List ℕ → Gathered
 all (plain l) vs = plain (l ++ vs)
 all (gapped l r) vs = gapped l (r ++ vs)
 
-push-one : (s : Seen) (v : ℕ) → all s (v ∷ []) ≡ push s v
+push-one : (s : Gathered) (v : ℕ) → all s (v ∷ []) ≡ push s v
 push-one (plain l) v = refl
 push-one (gapped l r) v = refl
 
-push-all : (s : Seen) (v : ℕ) (vs : List ℕ) → all s (v ∷ vs) ≡ all (push s v) vs
+push-all : (s : Gathered) (v : ℕ) (vs : List ℕ) → all s (v ∷ vs) ≡ all (push s v) vs
 push-all (plain l) v vs = simp append-assoc
 push-all (gapped l r) v vs = simp append-assoc
 
-room-all : (s : Seen) (v w : ℕ) (vs : List ℕ) → Fits (all s (v ∷ w ∷ vs)) → room (push s v) ≡ true
+room-all : (s : Gathered) (v w : ℕ) (vs : List ℕ) → Fits (all s (v ∷ w ∷ vs)) → room (push s v) ≡ true
 room-all (plain l) v w vs h =
     lt-ltb (length (l ++ v ∷ [])) 8 (let k = simp length-append at h in simp length-append (omega arith))
 room-all (gapped l r) v w vs h =
     lt-ltb (length l + length (r ++ v ∷ [])) 7 (let k = simp length-append at h in simp length-append (omega arith))
 
 module _ (end : ℕ) (e : Ending end) where
-  digits-walk : (ds : List ℕ) (s : Seen) (n v c : ℕ) (t vs : List ℕ) → HexDigits ds → (n + length ds ≡ 0 → ⊥) → n + length ds ≤ 4
+  digits-walk : (ds : List ℕ) (s : Gathered) (n v c : ℕ) (t vs : List ℕ) → HexDigits ds → (n + length ds ≡ 0 → ⊥) → n + length ds ≤ 4
       → (hexOf c < 16 → ⊥) → Takes end (behind (push s (number v ds))) (c ∷ t) vs → Takes end (digits s n v) (ds ++ c ∷ t) vs
   digits-walk [] s n v c t vs h some few other r =
       alike end (digits s n v) (behind (push s v)) c t vs (inside-follow end s n v c other (λ z. some (omega arith))) r
@@ -43,7 +43,7 @@ module _ (end : ℕ) (e : Ending end) where
       goes end (digits s n v) (digits s (n + 1) (v * 16 + hexOf d)) d (ds ++ c ∷ t) vs (inside-digit end s n v d (h .0) (omega arith))
       (digits-walk ds s (n + 1) (v * 16 + hexOf d) c t vs (h .1) (λ z. omega arith) (omega arith) other r)
 
-  group-walk : (g : List ℕ) (v : ℕ) (s : Seen) (c : ℕ) (t vs : List ℕ) → Group g v → (hexOf c < 16 → ⊥)
+  group-walk : (g : List ℕ) (v : ℕ) (s : Gathered) (c : ℕ) (t vs : List ℕ) → Group g v → (hexOf c < 16 → ⊥)
       → Takes end (behind (push s v)) (c ∷ t) vs → Takes end (digits s 0 0) (g ++ c ∷ t) vs
   group-walk g v s c t vs a other r =
       let some = a .some in
@@ -52,7 +52,7 @@ module _ (end : ℕ) (e : Ending end) where
       (subst (λ (x : ℕ). Takes end (behind (push s x)) (c ∷ t) vs) (a .value) r)
 
   -- where a group begins, the first byte is a digit
-  first-digit : (q : State) (s : Seen) → ((c : ℕ) → hexOf c < 16 → step end q c ≡ inside end s 0 0 c) → (f vs : List ℕ)
+  first-digit : (q : State) (s : Gathered) → ((c : ℕ) → hexOf c < 16 → step end q c ≡ inside end s 0 0 c) → (f vs : List ℕ)
       → Takes end (digits s 0 0) f vs → Takes end q f vs
   first-digit q s same [] vs r = absurd r
   first-digit q s same (c ∷ f) vs r = by (ltb (hexOf c) 16) refl
@@ -64,7 +64,7 @@ module _ (end : ℕ) (e : Ending end) where
   group-start : (f vs : List ℕ) → Takes end (digits (plain []) 0 0) f vs → Takes end start f vs
   group-start = first-digit start (plain []) (λ c h. simp (ne-eqb c 58 (digit-no-colon c h)))
 
-  group-colon : (s : Seen) (v : ℕ) (f vs : List ℕ) → Takes end (digits (push s v) 0 0) f vs → Takes end (colon (push s v)) f vs
+  group-colon : (s : Gathered) (v : ℕ) (f vs : List ℕ) → Takes end (digits (push s v) 0 0) f vs → Takes end (colon (push s v)) f vs
   group-colon (plain []) v = first-digit (colon (plain (v ∷ []))) (plain (v ∷ [])) (λ c h. simp (ne-eqb c 58 (digit-no-colon c h)))
   group-colon (plain (x ∷ l)) v =
       first-digit (colon (plain (x ∷ (l ++ v ∷ [])))) (plain (x ∷ (l ++ v ∷ []))) (λ c h. simp (ne-eqb c 58 (digit-no-colon c h)))
@@ -75,7 +75,7 @@ module _ (end : ℕ) (e : Ending end) where
       first-digit (gap l) (gapped l [])
       (λ c d. simp (ne-eqb c end (λ z. e .no-digit (rw z at d)), h))
 
-  groups-walk : (ws f : List ℕ) (s : Seen) (c : ℕ) (t vs : List ℕ) → Groups f ws → Fits (all s ws) → (hexOf c < 16 → ⊥)
+  groups-walk : (ws f : List ℕ) (s : Gathered) (c : ℕ) (t vs : List ℕ) → Groups f ws → Fits (all s ws) → (hexOf c < 16 → ⊥)
       → Takes end (behind (all s ws)) (c ∷ t) vs → Takes end (digits s 0 0) (f ++ c ∷ t) vs
   groups-walk [] f s c t vs g h other r = absurd g
   groups-walk (v ∷ []) f s c t vs g h other r = group-walk f v s c t vs g other (rw (push-one s v) at r)

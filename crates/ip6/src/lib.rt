@@ -12,8 +12,8 @@ ghost use Rattle.exact.specs.Ended.{Ended};
 ghost use Rattle.exact.specs.Machine.{run};
 ghost use Rattle.ip6.specs.Address.{hexOf, Address, Ending};
 ghost use Rattle.ip6.specs.Machine.{start, digits, behind, step};
-ghost use Rattle.ip6.specs.Told.{toldAddress, Unused};
-ghost use Rattle.ip6.specs.Partial.{Sized, sofar, seenOf, spread};
+ghost use Rattle.ip6.specs.ScannedAddress.{toldAddress, Unused};
+ghost use Rattle.ip6.specs.Partial.{Sized, sofar, gatheredOf, spread};
 ghost use Rattle.ip6.specs.Answer.{scanOf, From, Closed};
 
 // A bit for each byte from "0" to "f", the lowest for "0": set where the byte is a hex digit.
@@ -70,7 +70,7 @@ const REFUSED: u8 = 2;
 // The address ends at place i.
 fn finished(groups: &mut [u16; 8], count: usize, gap: usize, i: usize, place: &mut usize) -> u8
     requires { ⌜ Sized (sofar (now groups) count gap) × (i + 1 < 2 ^ 64) ⌝ }
-    ensures { λ r. ⌜ Closed i (seenOf (sofar (now (groups .entry)) count gap)) (scanOf r (now (place .exit))) (now (groups .exit)) ⌝ }
+    ensures { λ r. ⌜ Closed i (gatheredOf (sofar (now (groups .entry)) count gap)) (scanOf r (now (place .exit))) (now (groups .exit)) ⌝ }
 {
     if gap == 0 {
         if count == 8 {
@@ -98,7 +98,7 @@ fn group(
     place: &mut usize,
 ) -> u8
     requires { ⌜ Sized (sofar (now groups) count gap) × (count < 8) × (length (now (now s)) < 2 ^ 64) ⌝ }
-    ensures { λ r. ⌜ From end (now (now (s .entry))) i (digits (seenOf (sofar (now (groups .entry)) count gap)) 0 0)
+    ensures { λ r. ⌜ From end (now (now (s .entry))) i (digits (gatheredOf (sofar (now (groups .entry)) count gap)) 0 0)
         (scanOf r (now (place .exit))) (now (groups .exit)) ⌝ }
 {
     let bytes = *s;
@@ -137,7 +137,7 @@ fn colon(
     place: &mut usize,
 ) -> u8
     requires { ⌜ Sized (sofar (now groups) count gap) × (length (now (now s)) < 2 ^ 64) ⌝ }
-    ensures { λ r. ⌜ From end (now (now (s .entry))) i (behind (seenOf (sofar (now (groups .entry)) count gap)))
+    ensures { λ r. ⌜ From end (now (now (s .entry))) i (behind (gatheredOf (sofar (now (groups .entry)) count gap)))
         (scanOf r (now (place .exit))) (now (groups .exit)) ⌝ }
 {
     let bytes = *s;

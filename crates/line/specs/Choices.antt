@@ -21,10 +21,10 @@ use Rattle.record.specs.Records.{bare}
 use Rattle.header.specs.Header.{Header}
 use Rattle.fields.specs.LineFields.{word, lined, lineFeed, fromSource, spaceField, restField, is4, isU, tcp4, tcp6, starts4, starts6, tcps, unknown, unknown-starts, tcps-starts, shortEnd, longEnd, isCr, unknownEnd}
 use Rattle.fields.specs.Exactness.{address4, address6}
-use Rattle.line.specs.Families.{kindOf, field}
+use Rattle.line.specs.Families.{tcpKind, field}
 
 abbrev pub fromSpace : Bool → Parser Header
-fromSpace six = spaceField then λ u. fromSource (kindOf six) (field six)
+fromSpace six = spaceField then λ u. fromSource (tcpKind six) (field six)
 
 -- the byte behind "TCP" is 4 or 6
 abbrev pub isFamily : ℕ → Bool
@@ -116,13 +116,13 @@ module _ (s : List ℕ) (at : ℕ) (inside : at < length s) where
   family-four : getD s at 0 ≡ 52 → shift (at + 1) (fromSpace false .verdict (drop (at + 1) s)) ≡ shift at (families .verdict (drop at s))
   family-four e =
       byte-first s at inside 52 (four .verdict) (fromSpace false .verdict) e
-      (λ t. word-first 2 52 32 [] (λ u. fromSource (kindOf false) (field false)) t (omega arith) (omega arith))
+      (λ t. word-first 2 52 32 [] (λ u. fromSource (tcpKind false) (field false)) t (omega arith) (omega arith))
       ∙ choice-by s at inside is4 (four .verdict) (six .verdict) true (ap is4 e)
 
   family-six : getD s at 0 ≡ 54 → shift (at + 1) (fromSpace true .verdict (drop (at + 1) s)) ≡ shift at (families .verdict (drop at s))
   family-six e =
       byte-first s at inside 54 (six .verdict) (fromSpace true .verdict) e
-      (λ t. word-first 2 54 32 [] (λ u. fromSource (kindOf true) (field true)) t (omega arith) (omega arith))
+      (λ t. word-first 2 54 32 [] (λ u. fromSource (tcpKind true) (field true)) t (omega arith) (omega arith))
       ∙ choice-by s at inside is4 (four .verdict) (six .verdict) false (ap is4 e)
 
   pub family-known : isFamily (getD s at 0) ≡ true
@@ -143,7 +143,7 @@ module _ (s : List ℕ) (at : ℕ) (inside : at < length s) where
       by true e h = let z : _≡_ {A = ℕ} 0 1 = cc in absurd (omega arith)
       by false e h =
           byte-other s at inside 2 (six .verdict)
-          (word-other 2 54 (32 ∷ []) (λ u. fromSource (kindOf true) (field true)) (getD s at 0) (drop (at + 1) s) (omega arith) (eqb-false (getD s at 0) 54 h))
+          (word-other 2 54 (32 ∷ []) (λ u. fromSource (tcpKind true) (field true)) (getD s at 0) (drop (at + 1) s) (omega arith) (eqb-false (getD s at 0) 54 h))
           ∙ choice-by s at inside is4 (four .verdict) (six .verdict) false e
 
   -- behind "UNKNOWN"

@@ -15,12 +15,12 @@ use Rattle.record.specs.Kinds.{addressLength}
 use Rattle.record.specs.Records.{held}
 use Rattle.fields.specs.Exactness.{address4, address6}
 
-abbrev pub kindOf : Bool → Kind
-kindOf true = Ip6 Stream
-kindOf false = Ip4 Stream
+abbrev pub tcpKind : Bool → Kind
+tcpKind true = Ip6 Stream
+tcpKind false = Ip4 Stream
 
 abbrev pub width : Bool → ℕ
-width six = addressLength (kindOf six)
+width six = addressLength (tcpKind six)
 
 abbrev pub field : Bool → Parser (List ℕ)
 field true = address6

@@ -1,3 +1,2 @@
 pub mod Families
-pub mod AddressLaws
 pub mod Choices

@@ -20,12 +20,12 @@ ghost use Rattle.exact.specs.Field.{shift};
 ghost use Rattle.fields.specs.LineFields.{lined, lineFeed, fromDestinationPort, fromSourcePort, fromDestination, fromSource, tcps, unknownEnd, unknown};
 ghost use Rattle.fields.specs.Exactness.{address4, address6, lineField};
 ghost use Rattle.answer.specs.Sight.{callerRecord, callerOf, Sees};
-ghost use Rattle.line.specs.Families.{kindOf, width, field, padded};
+ghost use Rattle.line.specs.Families.{tcpKind, width, field, padded};
 ghost use Rattle.line.specs.Choices.{fromSpace, isFamily, families, fromRest, words};
 
 // TCP6 if six, else TCP4.
-fn kind_of(six: bool) -> Kind
-    ensures { λ r. ⌜ r ≡ kindOf six ⌝ }
+fn tcp_kind(six: bool) -> Kind
+    ensures { λ r. ⌜ r ≡ tcpKind six ⌝ }
 {
     if six {
         Kind::Ip6(Transport::Stream)
@@ -61,14 +61,14 @@ fn from_destination_port(
     p: u16,
 ) -> Seen
     requires { ⌜ (at ≤ length (now s)) × (from ≡ padded (take (width six) from)) × (to ≡ padded (take (width six) to)) ⌝ }
-    ensures { λ r. ⌜ Sees (now (s .entry)) (shift at (fromDestinationPort (kindOf six) (take (width six) from) (take (width six) to) p .verdict (drop at (now (s .entry))))) r ⌝ }
+    ensures { λ r. ⌜ Sees (now (s .entry)) (shift at (fromDestinationPort (tcpKind six) (take (width six) from) (take (width six) to) p .verdict (drop at (now (s .entry))))) r ⌝ }
 {
     match text::decimal(&s[at..], 65535, b'\r') {
         Scan::More => more(),
         Scan::Refused(place) => refused(Refusal::Port, at + place),
         Scan::Accepted(q, n) => {
             let caller = Caller {
-                kind: kind_of(six),
+                kind: tcp_kind(six),
                 source: from,
                 destination: to,
                 source_port: p,
@@ -81,7 +81,7 @@ fn from_destination_port(
 
 fn from_source_port(s: &[u8], at: usize, six: bool, from: [u8; 16], to: [u8; 16]) -> Seen
     requires { ⌜ (at ≤ length (now s)) × (from ≡ padded (take (width six) from)) × (to ≡ padded (take (width six) to)) ⌝ }
-    ensures { λ r. ⌜ Sees (now (s .entry)) (shift at (fromSourcePort (kindOf six) (take (width six) from) (take (width six) to) .verdict (drop at (now (s .entry))))) r ⌝ }
+    ensures { λ r. ⌜ Sees (now (s .entry)) (shift at (fromSourcePort (tcpKind six) (take (width six) from) (take (width six) to) .verdict (drop at (now (s .entry))))) r ⌝ }
 {
     match text::decimal(&s[at..], 65535, b' ') {
         Scan::More => more(),
@@ -92,7 +92,7 @@ fn from_source_port(s: &[u8], at: usize, six: bool, from: [u8; 16], to: [u8; 16]
 
 fn from_destination(s: &[u8], at: usize, six: bool, from: [u8; 16]) -> Seen
     requires { ⌜ (at ≤ length (now s)) × (from ≡ padded (take (width six) from)) ⌝ }
-    ensures { λ r. ⌜ Sees (now (s .entry)) (shift at (fromDestination (kindOf six) (field six) (take (width six) from) .verdict (drop at (now (s .entry))))) r ⌝ }
+    ensures { λ r. ⌜ Sees (now (s .entry)) (shift at (fromDestination (tcpKind six) (field six) (take (width six) from) .verdict (drop at (now (s .entry))))) r ⌝ }
 {
     let mut to = [0u8; 16];
     match address(&s[at..], six, &mut to) {
@@ -104,7 +104,7 @@ fn from_destination(s: &[u8], at: usize, six: bool, from: [u8; 16]) -> Seen
 
 fn from_source(s: &[u8], at: usize, six: bool) -> Seen
     requires { ⌜ at ≤ length (now s) ⌝ }
-    ensures { λ r. ⌜ Sees (now (s .entry)) (shift at (fromSource (kindOf six) (field six) .verdict (drop at (now (s .entry))))) r ⌝ }
+    ensures { λ r. ⌜ Sees (now (s .entry)) (shift at (fromSource (tcpKind six) (field six) .verdict (drop at (now (s .entry))))) r ⌝ }
 {
     let mut from = [0u8; 16];
     match address(&s[at..], six, &mut from) {

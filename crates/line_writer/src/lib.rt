@@ -77,35 +77,32 @@ fn push_address(draft: Draft, six: bool, held: [u8; 108]) -> Draft
 }
 
 // A TCP line: 6 + 4 + 1 + 39 + 1 + 39 + 1 + 5 + 1 + 5 + 2 = 104 bytes at most.
-fn tcp_line(word: &[u8], six: bool, connection: Record) -> Draft
-    ensures { λ r. ⌜ r ≡ appended (draftOf []) (tcpText (now (word .entry)) (addressText six) connection) ⌝ }
+fn tcp_line(word: &[u8], six: bool, record: Record) -> Draft
+    ensures { λ r. ⌜ r ≡ appended (draftOf []) (tcpText (now (word .entry)) (addressText six) «record») ⌝ }
 {
-    let source = connection.source;
-    let destination = connection.destination;
+    let source = record.source;
+    let destination = record.destination;
     let start = push(push_word(push_word(empty(), b"PROXY "), word), b' ');
     let from = push(push_address(start, six, source), b' ');
     let to = push(push_address(from, six, destination), b' ');
-    let port = push(push_decimal(to, connection.source_port as u64), b' ');
-    push_word(
-        push_decimal(port, connection.destination_port as u64),
-        b"\r\n",
-    )
+    let port = push(push_decimal(to, record.source_port as u64), b' ');
+    push_word(push_decimal(port, record.destination_port as u64), b"\r\n")
 }
 
 // The line of a record; empty for a kind without a form.
-fn line(connection: Record) -> Draft
-    ensures { λ r. ⌜ r ≡ appended (draftOf []) (writtenLine connection) ⌝ }
+fn line(record: Record) -> Draft
+    ensures { λ r. ⌜ r ≡ appended (draftOf []) (writtenLine «record») ⌝ }
 {
-    let kind = connection.kind;
+    let kind = record.kind;
     match kind {
         Kind::Local => empty(),
         Kind::Unspecified => push_word(empty(), b"PROXY UNKNOWN\r\n"),
         Kind::Ip4(transport) => match transport {
-            Transport::Stream => tcp_line(b"TCP4", false, connection),
+            Transport::Stream => tcp_line(b"TCP4", false, record),
             Transport::Datagram => empty(),
         },
         Kind::Ip6(transport) => match transport {
-            Transport::Stream => tcp_line(b"TCP6", true, connection),
+            Transport::Stream => tcp_line(b"TCP6", true, record),
             Transport::Datagram => empty(),
         },
         Kind::Unix(_) => empty(),
@@ -133,15 +130,15 @@ fn has_form(kind: Kind) -> bool
 
 // What is answered for a line of n bytes and an output of this size: a kind without a form (10), unused bytes or ports that are not zero (11), an output
 // that is too short (14), or the length.
-fn check(connection: Record, n: usize, room: usize) -> Written
-    requires { ⌜ n ≡ length (writtenLine connection) ⌝ }
-    ensures { λ r. ⌜ toldWritten r ≡ lineAnswer connection room ⌝ }
+fn check(record: Record, n: usize, room: usize) -> Written
+    requires { ⌜ n ≡ length (writtenLine «record») ⌝ }
+    ensures { λ r. ⌜ toldWritten r ≡ lineAnswer «record» room ⌝ }
 {
-    let kind = connection.kind;
+    let kind = record.kind;
     if !has_form(kind) {
         return Written::Refused(Fault::Form);
     }
-    if !clean(connection) {
+    if !clean(record) {
         return Written::Refused(Fault::Unused);
     }
     if room < n {
@@ -152,16 +149,16 @@ fn check(connection: Record, n: usize, room: usize) -> Written
 
 // Writes the record's line at the front of the output, and answers its length. Or refuses, in this order, a kind without a form (10), unused bytes or
 // ports that are not zero (11) and an output that is too short (14), and leaves the output as it was.
-pub fn write_line(connection: Record, out: &mut [u8]) -> Written
-    ensures { λ r. ⌜ (toldWritten r ≡ lineAnswer connection (length (now (out .entry))))
-        × (now (out .exit) ≡ outputAfter (lineAnswer connection (length (now (out .entry)))) (writtenLine connection) (now (out .entry)))
-        × Means connection (length (now (out .entry))) (toldWritten r)
-        × ReadsBack connection (toldWritten r) (now (out .exit)) ⌝ }
+pub fn write_line(record: Record, out: &mut [u8]) -> Written
+    ensures { λ r. ⌜ (toldWritten r ≡ lineAnswer «record» (length (now (out .entry))))
+        × (now (out .exit) ≡ outputAfter (lineAnswer «record» (length (now (out .entry)))) (writtenLine «record») (now (out .entry)))
+        × Means «record» (length (now (out .entry))) (toldWritten r)
+        × ReadsBack «record» (toldWritten r) (now (out .exit)) ⌝ }
 {
-    let draft = line(connection);
+    let draft = line(record);
     let bytes = draft.bytes;
     let n = draft.length;
-    let answer = check(connection, n, out.len());
+    let answer = check(record, n, out.len());
     let written = is_written(answer);
     if !written {
         return answer;

@@ -1,4 +1,3 @@
 pub mod Lookup
 pub mod Steps
 pub mod Laws
-pub mod Turn

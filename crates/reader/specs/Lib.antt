@@ -1,4 +1,3 @@
 pub mod Read
-pub mod ReadLaws
 pub mod Area
 pub mod AreaLaws

@@ -23,7 +23,7 @@ ghost use Rattle.reader.specs.Area.{areaStart, areaEnd, readArea};
 
 // What is seen in the bytes so far: demand 3 of document 01, for every s, before a record is made. The caller is the
 // verdict's, down to the bytes that no address uses.
-pub fn scan(s: &[u8]) -> Seen
+pub fn see(s: &[u8]) -> Seen
     ensures reads { λ r. ⌜ Reads (now (s .entry)) (readingOf (now (s .entry)) r) ⌝ }
     ensures caller { λ r. ⌜ r .caller ≡ callerBy (verdictOn (now (s .entry))) ⌝ }
 {
@@ -73,7 +73,7 @@ pub fn record_of(s: &[u8], seen: Seen) -> Record
 pub fn read(s: &[u8]) -> Reading
     ensures { λ r. ⌜ Reads (now (s .entry)) r ⌝ }
 {
-    let seen = scan(s);
+    let seen = see(s);
     let verdict = seen.verdict;
     Reading {
         verdict,
@@ -123,8 +123,8 @@ pub fn tlv_area(s: &[u8], reading: Reading) -> &[u8]
         × (now r ≡ readArea reading (now (s .entry))) ⌝ }
 {
     let verdict = reading.verdict;
-    let connection = reading.record;
-    let kind = connection.kind;
+    let record = reading.record;
+    let kind = record.kind;
     let span = area_span(verdict, kind, s.len());
     let start = span.start;
     let end = span.end;

@@ -1,5 +1,5 @@
 pub mod Kinds
-pub mod Told
+pub mod KnownFamily
 pub mod Table
 pub mod Records
 pub mod RecordLaws

@@ -11,7 +11,7 @@ pub use input::source_port_of;
 pub use output::put_addresses;
 pub use unused::clean;
 ghost use mathlib.Core.Path.{_≡_};
-ghost use Rattle.record.specs.Told.{toldFamily};
+ghost use Rattle.record.specs.KnownFamily.{toldFamily};
 ghost use Rattle.record.specs.Records.{recordWith, bare};
 ghost use Rattle.record.specs.Kinds.{family, byteOf, addressLength, portLength, blockLength};
 

@@ -41,8 +41,8 @@ pub fn answer_line(reading: Reading) -> Draft
     ensures { λ r. ⌜ r ≡ draftOf (answerLine reading) ⌝ }
 {
     let verdict = reading.verdict;
-    let connection = reading.record;
-    let kind = connection.kind;
+    let record = reading.record;
+    let kind = record.kind;
     match verdict {
         Verdict::Accepted { length, version: _ } => {
             let counted = push_decimal(push_word(empty(), b"accepted "), length as u64);

@@ -16,7 +16,7 @@ use record::put_addresses;
 ghost use mathlib.Core.Path.{_≡_};
 ghost use Prim.Native.Nat.{_≤_};
 ghost use lib.ListN.{length};
-ghost use Rattle.record.specs.Told.{toldFamily};
+ghost use Rattle.record.specs.KnownFamily.{toldFamily};
 ghost use Rattle.answer.specs.Answers.{toldWritten, outputAfter};
 ghost use Rattle.store.specs.Stored.{codeOf, kindOf, stored, storeAnswer};
 ghost use Rattle.store.specs.Loading.{flawNumber, toldLoaded, loadedRecord, noRecord, hasMark, hasVersion, loadAnswer};
@@ -94,11 +94,11 @@ pub fn kind_of(code: u8) -> Family
 }
 
 // What is answered for an output of this size: unused bytes or ports that are not zero (11), an output that is too short (14), or the length.
-fn check(connection: Record, room: usize) -> Written
-    ensures { λ r. ⌜ toldWritten r ≡ storeAnswer connection room ⌝ }
+fn check(record: Record, room: usize) -> Written
+    ensures { λ r. ⌜ toldWritten r ≡ storeAnswer «record» room ⌝ }
 {
-    let kind = connection.kind;
-    if !clean(connection) {
+    let kind = record.kind;
+    if !clean(record) {
         return Written::Refused(Fault::Unused);
     }
     let n = 6 + block_length(kind);
@@ -109,21 +109,21 @@ fn check(connection: Record, room: usize) -> Written
 }
 
 // Writes the record: how many bytes, or why the output stays as it was.
-pub fn store(connection: Record, out: &mut [u8]) -> Written
-    ensures { λ r. ⌜ (toldWritten r ≡ storeAnswer connection (length (now (out .entry))))
-        × (now (out .exit) ≡ outputAfter (storeAnswer connection (length (now (out .entry)))) (stored connection) (now (out .entry)))
-        × Means connection (length (now (out .entry))) (toldWritten r)
-        × LoadsBack connection (toldWritten r) (now (out .exit)) ⌝ }
+pub fn store(record: Record, out: &mut [u8]) -> Written
+    ensures { λ r. ⌜ (toldWritten r ≡ storeAnswer «record» (length (now (out .entry))))
+        × (now (out .exit) ≡ outputAfter (storeAnswer «record» (length (now (out .entry)))) (stored «record») (now (out .entry)))
+        × Means «record» (length (now (out .entry))) (toldWritten r)
+        × LoadsBack «record» (toldWritten r) (now (out .exit)) ⌝ }
 {
-    let kind = connection.kind;
-    let answer = check(connection, out.len());
+    let kind = record.kind;
+    let answer = check(record, out.len());
     let written = is_written(answer);
     if !written {
         return answer;
     }
     let head = [0x43, 0x53, 0x52, 0x00, 0x01, code_of(kind)];
     put(&head, out, 0);
-    put_addresses(connection, out, 6);
+    put_addresses(record, out, 6);
     answer
 }
 

@@ -1,7 +1,7 @@
 pub mod Decimal
 pub mod Ip4
 pub mod Line
-pub mod Told
+pub mod Octets
 pub mod Verdicts
 pub mod Endings
 pub mod DecimalLeaf

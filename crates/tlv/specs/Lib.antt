@@ -3,7 +3,6 @@ pub mod Laws
 pub mod Room
 pub mod Rules
 pub mod Region
-pub mod Turn
 pub mod Whole
 pub mod Test
 pub mod Heads

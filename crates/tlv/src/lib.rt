@@ -6,7 +6,7 @@ ghost use mathlib.Core.Logic.{_⊎_};
 ghost use Prim.Native.Nat.{ℕ, _≤_};
 ghost use Rattle.exact.specs.Claim.{Claim};
 ghost use Rattle.exact.specs.Valueless.{Valueless};
-ghost use Rattle.exact.specs.Told.{told};
+ghost use Rattle.exact.specs.Scans.{told};
 ghost use Rattle.tlv.specs.Tlv.{WellFormed, Filled};
 ghost use Rattle.tlv.specs.Region.{good, judge};
 ghost use Rattle.tlv.specs.Put.{tlvPlaced};

@@ -12,9 +12,9 @@ use Rattle.record.specs.declared.Kind.{Kind}
 use Rattle.record.specs.Kinds.{blockLength}
 use Rattle.fields.specs.BlockFields.{fits, blockLengthField, addresses, addressed}
 use Rattle.answer.specs.StageLaws.{sees-as, as-refused, as-accepted}
-use Rattle.block.specs.Parts.{number-at}
-use Rattle.block.specs.Takes.{bytes-of, bytes-drop, next-short, short-at}
-use Rattle.block.specs.Leaves.{number-short, number-full}
+use Rattle.block.proofs.Parts.{number-at}
+use Rattle.block.proofs.Takes.{bytes-of, bytes-drop, next-short, short-at}
+use Rattle.block.proofs.Leaves.{number-short, number-full}
 use Rattle.block.proofs.addressed.Statement.{statement}
 use Rattle.block.proofs.addressed.Tie as tie
 

@@ -7,16 +7,16 @@ use borrow.Author.Needs.{needs}
 use lib.ListN.{length, drop}
 use Rattle.exact.specs.Claim.{AllBytes, more, refused}
 use Rattle.exact.specs.Parser.{reach}
-use Rattle.exact.specs.Told.{told}
+use Rattle.exact.specs.Scans.{told}
 use Rattle.exact.specs.declared.Scan.{Scan}
 use Rattle.tlv.specs.Region.{judge}
 use Rattle.record.specs.declared.Kind.{Kind}
 use Rattle.record.specs.Kinds.{blockLength}
 use Rattle.fields.specs.BlockFields.{addresses, block-small}
 use Rattle.answer.specs.StageLaws.{sees-as, said}
-use Rattle.block.specs.Takes.{bytes-of, short-at}
-use Rattle.block.specs.Leaves.{fits-over}
-use Rattle.block.specs.Addresses.{Reached, addresses-short, tlvs-more, tlvs-refused, tlvs-accepted, tlvs-inside}
+use Rattle.block.proofs.Takes.{bytes-of, short-at}
+use Rattle.block.proofs.Leaves.{fits-over}
+use Rattle.block.proofs.AddressLaws.{Reached, addresses-short, tlvs-more, tlvs-refused, tlvs-accepted, tlvs-inside}
 use Rattle.block.proofs.addresses.Statement.{statement}
 use Rattle.block.proofs.addresses.Tie as tie
 

@@ -7,7 +7,7 @@ use lib.ListN.{length, drop}
 use Rattle.exact.specs.Claim.{Verdict, accepted, more, refused}
 use Rattle.exact.specs.Field.{Exact, shift}
 use Rattle.exact.specs.Parser.{Parser, _then_}
-use Rattle.exact.specs.Told.{told}
+use Rattle.exact.specs.Scans.{told}
 use Rattle.exact.specs.declared.Scan.{Scan}
 use Rattle.header.specs.Header.{Header}
 use Rattle.fields.specs.BlockFields.{signatureField, command, commandRest}

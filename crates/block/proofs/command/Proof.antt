@@ -14,9 +14,9 @@ use Rattle.record.specs.declared.Kind.the-variants.{Local}
 use Rattle.record.specs.Records.{bare}
 use Rattle.fields.specs.BlockFields.{local, proxy, commandOf, command, commandRest, anyByte, skipped}
 use Rattle.answer.specs.StageLaws.{sees-as, as-refused, as-accepted}
-use Rattle.block.specs.Takes.{bytes-of, bytes-drop, next-short, short-at, pass-at}
-use Rattle.block.specs.Leaves.{byte-short, byte-full, takes-byte}
-use Rattle.block.specs.Skipped.{skipped-wants}
+use Rattle.block.proofs.Takes.{bytes-of, bytes-drop, next-short, short-at, pass-at}
+use Rattle.block.proofs.Leaves.{byte-short, byte-full, takes-byte}
+use Rattle.block.proofs.SkippedLaws.{skipped-wants}
 use Rattle.block.proofs.command.Statement.{statement}
 use Rattle.block.proofs.command.Tie as tie
 

@@ -8,7 +8,7 @@ use Rattle.exact.specs.Claim.{Verdict}
 use Rattle.exact.specs.Field.{shift}
 use Rattle.header.specs.Header.{Header}
 use Rattle.answer.specs.StageLaws.{sees-as}
-use Rattle.block.specs.KindLaws.{bare-kind, block-kind}
+use Rattle.block.proofs.KindLaws.{bare-kind, block-kind}
 use Rattle.block.proofs.family_rest.Statement.{statement}
 use Rattle.block.proofs.family_rest.Tie as tie
 

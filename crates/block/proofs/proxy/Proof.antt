@@ -12,9 +12,9 @@ use Rattle.record.specs.Kinds.{family}
 use Rattle.fields.specs.BlockFields.{familyField, familyRest}
 use Rattle.answer.specs.StageLaws.{sees-as, as-refused, as-accepted}
 use Rattle.record.specs.declared.Family.{Family}
-use Rattle.record.specs.Told.{toldFamily}
-use Rattle.block.specs.Takes.{bytes-of, bytes-drop, next-short, short-at}
-use Rattle.block.specs.Leaves.{byte-short, byte-full}
+use Rattle.record.specs.KnownFamily.{toldFamily}
+use Rattle.block.proofs.Takes.{bytes-of, bytes-drop, next-short, short-at}
+use Rattle.block.proofs.Leaves.{byte-short, byte-full}
 use Rattle.block.proofs.proxy.Statement.{statement}
 use Rattle.block.proofs.proxy.Tie as tie
 

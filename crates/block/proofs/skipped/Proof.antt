@@ -13,10 +13,10 @@ use Rattle.record.specs.Records.{bare}
 use Rattle.record.specs.AddressBlock.{blockRecord}
 use Rattle.fields.specs.BlockFields.{blocked}
 use Rattle.answer.specs.StageLaws.{sees-as}
-use Rattle.block.specs.Takes.{bytes-of}
-use Rattle.block.specs.KindLaws.{bare-kind}
-use Rattle.block.specs.Accepted.{as-block}
-use Rattle.block.specs.Skipped.{skipped-head, skipped-short, skipped-whole}
+use Rattle.block.proofs.Takes.{bytes-of}
+use Rattle.block.proofs.KindLaws.{bare-kind}
+use Rattle.block.proofs.AcceptedLaws.{as-block}
+use Rattle.block.proofs.SkippedLaws.{skipped-head, skipped-short, skipped-whole}
 use Rattle.block.proofs.skipped.Statement.{statement}
 use Rattle.block.proofs.skipped.Tie as tie
 

@@ -17,13 +17,13 @@ use Rattle.fields.specs.BlockFields.{block-small}
 use Rattle.answer.specs.Answers.{wrote}
 use Rattle.block_writer.specs.Areas.{areaTest}
 use Rattle.block_writer.specs.Written.{blockOf, writtenBlock}
-use Rattle.block_writer.specs.WrittenLaws.{block-length, written-length}
+use Rattle.block_writer.proofs.WrittenLaws.{block-length, written-length}
 use Rattle.block_writer.proofs.check.Statement.{statement}
 use Rattle.block_writer.proofs.check.Tie as tie
 
 module _ (c : tie.After-clean) where
-  abbrev connection : Record
-  connection = c .before .before .args .connection
+  abbrev the-record : Record
+  the-record = c .before .before .args .«record»
 
   abbrev area : List ℕ
   area = now (c .before .before .args .area)
@@ -31,13 +31,13 @@ module _ (c : tie.After-clean) where
   abbrev room : ℕ
   room = c .before .before .args .room
 
-  sized : Sized connection
-  sized = in-memory connection _ (c .before .before .good .0)
+  sized : Sized the-record
+  sized = in-memory the-record _ (c .before .before .good .0)
 
 returns : tie.Need-returns
 returns c = simp (sym (c .before .clean .ensures .0) ∙ not-true _ (c .if1 .taken))
 
-cleaned : (c : tie.Else1) → cleanTest (connection (c .before)) ≡ true
+cleaned : (c : tie.Else1) → cleanTest (the-record (c .before)) ≡ true
 cleaned c = sym (c .before .clean .ensures .0) ∙ not-false _ (c .if1 .left)
 
 returns-2 : tie.Need-returns-2
@@ -50,24 +50,24 @@ module _ (c : tie.After-block-length) where
   abbrev first : tie.After-clean
   first = tested .before
 
-  fitting : areaTest (connection first .kind) (area first) ≡ true
+  fitting : areaTest (the-record first .kind) (area first) ≡ true
   fitting = sym (c .before .before .area-fits .ensures) ∙ not-false _ (c .before .if2 .left)
 
   few : c .block-length .result ≤ 253
-  few = let h = block-small (connection first .kind) in let e = c .block-length .ensures in omega arith
+  few = let h = block-small (the-record first .kind) in let e = c .block-length .ensures in omega arith
 
   -- the sizes that the code computes are those of the block and of what is written
-  in-block : length (blockOf (connection first) (area first)) ≡ c .block-length .result + length (area first)
-  in-block = let l = block-length (connection first) (area first) (sized first) in let e = c .block-length .ensures in omega arith
+  in-block : length (blockOf (the-record first) (area first)) ≡ c .block-length .result + length (area first)
+  in-block = let l = block-length (the-record first) (area first) (sized first) in let e = c .block-length .ensures in omega arith
 
-  in-all : length (writtenBlock (connection first) (area first)) ≡ 16 + (c .block-length .result + length (area first))
-  in-all = let l = written-length (connection first) (area first) (sized first) in let e = c .block-length .ensures in omega arith
+  in-all : length (writtenBlock (the-record first) (area first)) ≡ 16 + (c .block-length .result + length (area first))
+  in-all = let l = written-length (the-record first) (area first) (sized first) in let e = c .block-length .ensures in omega arith
 
-  large : 65536 ≤ c .block-length .result + length (area first) → ltb (length (blockOf (connection first) (area first))) 65536 ≡ false
-  large h = let l = in-block in le-ltb (length (blockOf (connection first) (area first))) 65536 (omega arith)
+  large : 65536 ≤ c .block-length .result + length (area first) → ltb (length (blockOf (the-record first) (area first))) 65536 ≡ false
+  large h = let l = in-block in le-ltb (length (blockOf (the-record first) (area first))) 65536 (omega arith)
 
-  fits : c .block-length .result + length (area first) < 65536 → ltb (length (blockOf (connection first) (area first))) 65536 ≡ true
-  fits h = let l = in-block in lt-ltb (length (blockOf (connection first) (area first))) 65536 (omega arith)
+  fits : c .block-length .result + length (area first) < 65536 → ltb (length (blockOf (the-record first) (area first))) 65536 ≡ true
+  fits h = let l = in-block in lt-ltb (length (blockOf (the-record first) (area first))) 65536 (omega arith)
 
 sub-if3 : tie.Need-sub-if3
 sub-if3 c = let h = few c in omega arith
@@ -86,7 +86,7 @@ returns-4 c =
     let d = c .before .before in
     let h = few d in
     let size = in-all d in
-    let short : room (first d) < length (writtenBlock (connection (first d)) (area (first d))) = omega arith in
+    let short : room (first d) < length (writtenBlock (the-record (first d)) (area (first d))) = omega arith in
     simp (cleaned (tested d), fitting d, fits d (omega arith), lt-leb _ _ short)
 
 returns-5 : tie.Need-returns-5
@@ -94,7 +94,7 @@ returns-5 c =
     let d = c .before .before in
     let h = few d in
     let size = in-all d in
-    let long : length (writtenBlock (connection (first d)) (area (first d))) ≤ room (first d) = omega arith in
+    let long : length (writtenBlock (the-record (first d)) (area (first d))) ≤ room (first d) = omega arith in
     ap wrote (sym size) ∙ simp (cleaned (tested d), fitting d, fits d (omega arith), le-leb _ _ long)
 
 pub check-spec : {M : Type 1} → statement M

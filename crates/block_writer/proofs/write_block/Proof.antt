@@ -18,7 +18,7 @@ use Rattle.record.proofs.InMemory.{in-memory}
 use Rattle.answer.specs.Answers.{WriteAnswer, wrote, toldWritten, outputAfter}
 use Rattle.answer.specs.OutputLaws.{output-refused, is-wrote, output-written}
 use Rattle.block_writer.specs.Written.{headOf, blockOf, writtenBlock, CarriedByBlock, blockAnswer}
-use Rattle.block_writer.specs.WrittenLaws.{block-length}
+use Rattle.block_writer.proofs.WrittenLaws.{block-length}
 use Rattle.block_writer.specs.Demand.{Means, answer-means, block-accepted, ReadsBack, reads-back}
 use Rattle.block_writer.proofs.write_block.Statement.{statement}
 use Rattle.block_writer.proofs.write_block.Tie as tie
@@ -49,8 +49,8 @@ module _ (c : tie.After-check) where
   abbrev start : tie.Start
   start = c .before .before .before
 
-  abbrev connection : Record
-  connection = start .args .connection
+  abbrev the-record : Record
+  the-record = start .args .«record»
 
   abbrev area : List ℕ
   area = now (start .args .area)
@@ -59,24 +59,24 @@ module _ (c : tie.After-check) where
   out = now (start .args .out)
 
   abbrev text : List ℕ
-  text = writtenBlock connection area
+  text = writtenBlock the-record area
 
   abbrev answer : WriteAnswer
-  answer = blockAnswer connection area (length out)
+  answer = blockAnswer the-record area (length out)
 
-  sized : Sized connection
-  sized = in-memory connection _ (start .good .0)
+  sized : Sized the-record
+  sized = in-memory the-record _ (start .good .0)
 
   -- an output as defined is what is promised, since the record is one in memory
   promise : (after : List ℕ) → after ≡ outputAfter answer text out
       → (toldWritten (c .check .result) ≡ answer) × (after ≡ outputAfter answer text out)
-      × Means connection area (length out) (toldWritten (c .check .result)) × ReadsBack connection area (toldWritten (c .check .result)) after
+      × Means the-record area (length out) (toldWritten (c .check .result)) × ReadsBack the-record area (toldWritten (c .check .result)) after
   promise after o =
       let e = c .check .ensures in (
         e,
         o,
-        subst (Means connection area (length out)) (sym e) (answer-means connection area (length out) sized),
-        subst (λ (a : WriteAnswer). ReadsBack connection area a after) (sym e) (reads-back connection area out after sized o),
+        subst (Means the-record area (length out)) (sym e) (answer-means the-record area (length out) sized),
+        subst (λ (a : WriteAnswer). ReadsBack the-record area a after) (sym e) (reads-back the-record area out after sized o),
       )
 
 returns : tie.Need-returns
@@ -103,12 +103,12 @@ module _ (c : tie.After-block-length) where
   n = some .0
 
   -- what is written is what version 2 can carry, and fits
-  carried : CarriedByBlock (connection checked) (area checked) × (length (text checked) ≡ n) × (n ≤ length (out checked))
-  carried = block-accepted (connection checked) (area checked) (length (out checked)) n (sized checked) (some .1)
+  carried : CarriedByBlock (the-record checked) (area checked) × (length (text checked) ≡ n) × (n ≤ length (out checked))
+  carried = block-accepted (the-record checked) (area checked) (length (out checked)) n (sized checked) (some .1)
 
   small : c .block-length .result + length (area checked) < 65536
   small =
-      let l = block-length (connection checked) (area checked) (sized checked) in
+      let l = block-length (the-record checked) (area checked) (sized checked) in
       let e = c .block-length .ensures in
       let h = carried .0 .small in
       omega arith
@@ -130,7 +130,7 @@ returns-2 c =
     let sizes = c₁ .before .before in
     let d = checked sizes in
     promise d _
-    (whole (connection d) (area d) (sized d) (sizes .block-length .result) (n sizes) _ _ _ _ (sizes .block-length .ensures) (sym (carried sizes .1))
+    (whole (the-record d) (area d) (sized d) (sizes .block-length .result) (n sizes) _ _ _ _ (sizes .block-length .ensures) (sym (carried sizes .1))
     (carried sizes .2) (c₁ .put-head .ensures) (c₂ .put-addresses .ensures) (c₃ .put .ensures)
     ∙ output-written (answer d) (text d) (out d) (n sizes) (some sizes .1))
 

@@ -8,9 +8,9 @@ use Rattle.exact.specs.declared.Scan.{Scan}
 use Rattle.ip6.specs.Address.{hexOf}
 use Rattle.ip6.specs.Hex.{hex-most}
 use Rattle.ip6.specs.Machine.{digits, behind, colon, gap}
-use Rattle.ip6.specs.Partial.{Partial, sofar, Sized, seenOf}
+use Rattle.ip6.specs.Partial.{Partial, sofar, Sized, gatheredOf}
 use Rattle.ip6.specs.Answer.{From}
-use Rattle.ip6.proofs.Seen.{push-sized, gap-sized}
+use Rattle.ip6.proofs.Gathered.{push-sized, gap-sized}
 use Rattle.ip6.proofs.Turn.{wants}
 use Rattle.ip6.proofs.AtGroup.{digits-fit, digits-more, group-none, group-long, group-digit, group-ends}
 use Rattle.ip6.proofs.AtColon.{held, behind-other, behind-ends, behind-full, behind-colon, colon-lone, colon-group, colon-twice, colon-gap}
@@ -56,8 +56,8 @@ group-calls t = (hex-value-reads.Asked, hex-value-reads.Learnt, colon-below t, c
 abbrev group-Inv-loop : group-lts.InvT-loop
 group-Inv-loop s i end groups₀ count gaps place₀ bytes v₀ n₀ at₀ groups place v n at =
     (at ≡ i + n) × (n ≤ 4) × (v < 16 ^ n) × Sized (sofar groups count gaps)
-    × ((r : Scan) (g : List ℕ) → From end bytes at (digits (seenOf (sofar groups count gaps)) n v) r g
-    → From end bytes i (digits (seenOf (sofar groups₀ count gaps)) 0 0) r g)
+    × ((r : Scan) (g : List ℕ) → From end bytes at (digits (gatheredOf (sofar groups count gaps)) n v) r g
+    → From end bytes i (digits (gatheredOf (sofar groups₀ count gaps)) 0 0) r g)
 
 abbrev group-μ-loop : group-lts.MeasureT-loop
 group-μ-loop s i end groups₀ count gaps place₀ bytes v₀ n₀ at₀ groups place v n at = length bytes - at
@@ -104,8 +104,8 @@ module _ (t : ℕ) where
     abbrev few : partial .count < 8
     few = c .if4 .left
 
-    past : {r : Scan} {g : List ℕ} → From (start .args .end) (start .args .s .now .now) (start .args .i + 1) (colon (seenOf partial)) r g
-        → From (start .args .end) (start .args .s .now .now) (start .args .i) (behind (seenOf partial)) r g
+    past : {r : Scan} {g : List ℕ} → From (start .args .end) (start .args .s .now .now) (start .args .i + 1) (colon (gatheredOf partial)) r g
+        → From (start .args .end) (start .args .s .now .now) (start .args .i) (behind (gatheredOf partial)) r g
     past f = behind-colon sized (c .before .before .before .if1 .left) (c .before .if2 .left) few f
 
   colon-add-next : colon-lts.Need-add-next (colon-calls t) (colon-at t) colon-reads.Post
@@ -146,7 +146,7 @@ module _ (t : ℕ) where
 
     past-both : {r : Scan} {g : List ℕ}
         → From (start first .args .end) (start first .args .s .now .now) (start first .args .i + 1 + 1) (gap (held (partial first))) r g
-        → From (start first .args .end) (start first .args .s .now .now) (start first .args .i) (behind (seenOf (partial first))) r g
+        → From (start first .args .end) (start first .args .s .now .now) (start first .args .i) (behind (gatheredOf (partial first))) r g
     past-both f = past first (colon-gap (sized first) (c .before .before .before .if5 .left) (c .before .if6 .left) (c .if8 .left) f)
 
   colon-add-after : colon-lts.Need-add-after (colon-calls t) (colon-at t) colon-reads.Post

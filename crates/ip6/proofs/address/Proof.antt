@@ -7,7 +7,7 @@ use Rattle.exact.specs.Claim.{Verdict, Claim}
 use Rattle.exact.specs.Ended.{Ended}
 use Rattle.exact.specs.Machine.{run, from-start}
 use Rattle.exact.specs.Theorem.{leaf-claims}
-use Rattle.exact.specs.Told.{heard}
+use Rattle.exact.specs.Scans.{heard}
 use Rattle.exact.specs.declared.Scan.{Scan}
 use Rattle.exact.specs.declared.Scan.the-variants.{Refused}
 use Rattle.ip6.specs.Address.{Address, Ending}

@@ -5,7 +5,7 @@ use mathlib.Core.List.{List}
 use native.Mathlib.Omega.{arith}
 use lib.ListN.{drop, take}
 use Rattle.exact.specs.Field.{shift}
-use Rattle.exact.specs.Told.{told}
+use Rattle.exact.specs.Scans.{told}
 use Rattle.exact.specs.Stage.{stage-inside, stage-member, stage-place}
 use Rattle.exact.specs.Parser.{Parser}
 use Rattle.exact.specs.declared.Scan.{Scan}
@@ -15,8 +15,8 @@ use Rattle.record.specs.Kinds.{addressLength}
 use Rattle.record.specs.Records.{recordOf}
 use Rattle.header.specs.Header.{Header}
 use Rattle.fields.specs.LineFields.{lined, lineFeed, destinationPort}
-use Rattle.line.specs.Families.{kindOf, width}
-use Rattle.line.specs.AddressLaws.{own-caller}
+use Rattle.line.specs.Families.{tcpKind, width}
+use Rattle.line.proofs.AddressLaws.{own-caller}
 use Rattle.answer.specs.StageLaws.{sees-as, said, as-more, as-refused, as-accepted}
 use borrow.Author.Needs.{needs}
 use Rattle.line.proofs.from_destination_port.Statement.{statement}
@@ -34,7 +34,7 @@ module _ (c : tie.After-decimal) where
 
   abbrev rest : ℕ → Parser Header
   rest q =
-      lineFeed (lined (recordOf (kindOf (start .args .six)) (take (width (start .args .six)) (start .args .from)) (take (width (start .args .six)) (start .args .to)) (start .args .p) q))
+      lineFeed (lined (recordOf (tcpKind (start .args .six)) (take (width (start .args .six)) (start .args .from)) (take (width (start .args .six)) (start .args .to)) (start .args .p) q))
 
   found : (x : Scan) → c .decimal .result ≡ x → told 4 x ≡ destinationPort .verdict (drop at text)
   found x e = said 4 (destinationPort .verdict) text at e (c .decimal .ensures .0 4)
@@ -53,7 +53,7 @@ line-feed-requires c κs =
     let ran = c .before .before .before .before in
     let pre = start ran .pre in (
       stage-inside destinationPort (text ran) (at ran) (pre .0) _ _ (found ran _ (c .before .before .q .given .1)),
-      own-caller (start ran .args .six) _ _ _ _ _ (c .kind-of .ensures) (search needs) (search needs),
+      own-caller (start ran .args .six) _ _ _ _ _ (c .tcp-kind .ensures) (search needs) (search needs),
     )
 
 returns : tie.Need-returns
@@ -72,7 +72,7 @@ returns-3 c =
     in
     as-accepted destinationPort (rest ran) (text ran) (at ran) _ _ (found ran _ (c .before .before .before .q .given .1))
     (sees-as (c .line-feed .ensures)
-    (ap (λ (k : Kind). shift n (lineFeed (lined (caller k)) .verdict (drop n (text ran)))) (c .before .kind-of .ensures)))
+    (ap (λ (k : Kind). shift n (lineFeed (lined (caller k)) .verdict (drop n (text ran)))) (c .before .tcp-kind .ensures)))
 
 pub from-destination-port-spec : {M : Type 1} → statement M
 from-destination-port-spec =

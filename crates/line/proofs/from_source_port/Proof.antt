@@ -4,13 +4,13 @@ use mathlib.Core.Path.{_≡_}
 use mathlib.Core.List.{List}
 use native.Mathlib.Omega.{arith}
 use lib.ListN.{drop, take}
-use Rattle.exact.specs.Told.{told}
+use Rattle.exact.specs.Scans.{told}
 use Rattle.exact.specs.Stage.{stage-inside, stage-member, stage-place}
 use Rattle.exact.specs.Parser.{Parser}
 use Rattle.exact.specs.declared.Scan.{Scan}
 use Rattle.header.specs.Header.{Header}
 use Rattle.fields.specs.LineFields.{sourcePort, fromDestinationPort}
-use Rattle.line.specs.Families.{kindOf, width}
+use Rattle.line.specs.Families.{tcpKind, width}
 use Rattle.answer.specs.StageLaws.{said, as-more, as-refused, as-accepted}
 use borrow.Author.Needs.{needs}
 use Rattle.line.proofs.from_source_port.Statement.{statement}
@@ -28,7 +28,7 @@ module _ (c : tie.After-decimal) where
 
   abbrev rest : ℕ → Parser Header
   rest =
-      fromDestinationPort (kindOf (start .args .six)) (take (width (start .args .six)) (start .args .from)) (take (width (start .args .six)) (start .args .to))
+      fromDestinationPort (tcpKind (start .args .six)) (take (width (start .args .six)) (start .args .from)) (take (width (start .args .six)) (start .args .to))
 
   found : (x : Scan) → c .decimal .result ≡ x → told 4 x ≡ sourcePort .verdict (drop at text)
   found x e = said 4 (sourcePort .verdict) text at e (c .decimal .ensures .0 4)

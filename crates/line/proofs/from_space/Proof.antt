@@ -4,13 +4,13 @@ use mathlib.Core.Path.{_≡_}
 use mathlib.Core.List.{List}
 use native.Mathlib.Omega.{arith}
 use lib.ListN.{drop}
-use Rattle.exact.specs.Told.{told}
+use Rattle.exact.specs.Scans.{told}
 use Rattle.exact.specs.Stage.{stage-inside, stage-place}
 use Rattle.exact.specs.Parser.{Parser}
 use Rattle.exact.specs.declared.Scan.{Scan}
 use Rattle.header.specs.Header.{Header}
 use Rattle.fields.specs.LineFields.{spaceField, fromSource}
-use Rattle.line.specs.Families.{kindOf, field}
+use Rattle.line.specs.Families.{tcpKind, field}
 use Rattle.answer.specs.StageLaws.{said, as-more, as-refused, as-accepted}
 use borrow.Author.Needs.{needs}
 use Rattle.line.proofs.from_space.Statement.{statement}
@@ -27,7 +27,7 @@ module _ (c : tie.After-literal) where
   at = start .args .at
 
   abbrev rest : ℕ → Parser Header
-  rest x = fromSource (kindOf (start .args .six)) (field (start .args .six))
+  rest x = fromSource (tcpKind (start .args .six)) (field (start .args .six))
 
   found : (x : Scan) → c .literal .result ≡ x → told 2 x ≡ spaceField .verdict (drop at text)
   found x e = said 2 (spaceField .verdict) text at e (c .literal .ensures .0 2)

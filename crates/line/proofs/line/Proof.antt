@@ -4,7 +4,7 @@ use mathlib.Core.Path.{_≡_, sym, ap, _∙_}
 use mathlib.Core.List.{List}
 use Rattle.exact.specs.Claim.{accepted, more, refused}
 use Rattle.exact.specs.Parser.{reach-le}
-use Rattle.exact.specs.Told.{told}
+use Rattle.exact.specs.Scans.{told}
 use Rattle.exact.specs.declared.Scan.{Scan}
 use Rattle.fields.specs.LineFields.{proxyWord}
 use Rattle.answer.specs.StageLaws.{as-first}

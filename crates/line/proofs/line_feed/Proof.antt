@@ -4,7 +4,7 @@ use mathlib.Core.Path.{_≡_, refl}
 use mathlib.Core.List.{List}
 use native.Mathlib.Omega.{arith}
 use lib.ListN.{drop}
-use Rattle.exact.specs.Told.{told}
+use Rattle.exact.specs.Scans.{told}
 use Rattle.exact.specs.Stage.{stage-inside, stage-place}
 use Rattle.exact.specs.Parser.{Parser, just}
 use Rattle.header.specs.Header.{Header}

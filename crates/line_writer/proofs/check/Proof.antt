@@ -16,7 +16,7 @@ use Rattle.line_writer.proofs.check.Tie as tie
 returns : tie.Need-returns
 returns c = simp (sym (c .before .has-form .ensures) ∙ not-true _ (c .if1 .taken))
 
-form : (c : tie.Else1) → hasForm (c .before .before .args .connection .kind) ≡ true
+form : (c : tie.Else1) → hasForm (c .before .before .args .«record» .kind) ≡ true
 form c = sym (c .before .has-form .ensures) ∙ not-false _ (c .if1 .left)
 
 returns-2 : tie.Need-returns-2
@@ -26,24 +26,24 @@ module _ (c : tie.Else2) where
   abbrev start : tie.Start
   start = c .before .before .before .before
 
-  abbrev connection : Record
-  connection = start .args .connection
+  abbrev the-record : Record
+  the-record = start .args .«record»
 
-  tested : cleanTest connection ≡ true
+  tested : cleanTest the-record ≡ true
   tested = sym (c .before .clean .ensures .0) ∙ not-false _ (c .if2 .left)
 
 returns-3 : tie.Need-returns-3
 returns-3 c =
     let d = c .before in
     let size = start d .pre in
-    let short : start d .args .room < length (writtenLine (connection d)) = omega arith in
+    let short : start d .args .room < length (writtenLine (the-record d)) = omega arith in
     simp (form (d .before .before), tested d, lt-leb _ _ short)
 
 returns-4 : tie.Need-returns-4
 returns-4 c =
     let d = c .before in
     let size = start d .pre in
-    let long : length (writtenLine (connection d)) ≤ start d .args .room = omega arith in
+    let long : length (writtenLine (the-record d)) ≤ start d .args .room = omega arith in
     ap wrote size ∙ simp (form (d .before .before), tested d, le-leb _ _ long)
 
 pub check-spec : {M : Type 1} → statement M

@@ -27,23 +27,23 @@ module _ (c : tie.After-line) where
   abbrev start : tie.Start
   start = c .before .before
 
-  abbrev connection : Record
-  connection = start .args .connection
+  abbrev the-record : Record
+  the-record = start .args .«record»
 
-  sized : Sized connection
-  sized = in-memory connection _ (start .good .0)
+  sized : Sized the-record
+  sized = in-memory the-record _ (start .good .0)
 
-  is-line : c .line .result ≡ draftOf (writtenLine connection)
-  is-line = c .line .ensures ∙ appended-draft [] (writtenLine connection) (written-fits connection sized)
+  is-line : c .line .result ≡ draftOf (writtenLine the-record)
+  is-line = c .line .ensures ∙ appended-draft [] (writtenLine the-record) (written-fits the-record sized)
 
-  size : c .line .result .length ≡ length (writtenLine connection)
-  size = draft-size (writtenLine connection) is-line
+  size : c .line .result .length ≡ length (writtenLine the-record)
+  size = draft-size (writtenLine the-record) is-line
 
   room : c .line .result .length ≤ length (c .line .result .bytes)
-  room = draft-room (writtenLine connection) is-line
+  room = draft-room (writtenLine the-record) is-line
 
-  says : take (c .line .result .length) (c .line .result .bytes) ≡ writtenLine connection
-  says = draft-says (writtenLine connection) is-line
+  says : take (c .line .result .length) (c .line .result .bytes) ≡ writtenLine the-record
+  says = draft-says (writtenLine the-record) is-line
 
 -- ── the answer ──
 module _ (c : tie.After-check) where
@@ -54,18 +54,18 @@ module _ (c : tie.After-check) where
   out = now (start drafted .args .out)
 
   abbrev answer : WriteAnswer
-  answer = lineAnswer (connection drafted) (length out)
+  answer = lineAnswer (the-record drafted) (length out)
 
   -- an output as defined is what is promised, since the record is one in memory
-  promise : (after : List ℕ) → after ≡ outputAfter answer (writtenLine (connection drafted)) out
-      → (toldWritten (c .check .result) ≡ answer) × (after ≡ outputAfter answer (writtenLine (connection drafted)) out)
-      × Means (connection drafted) (length out) (toldWritten (c .check .result)) × ReadsBack (connection drafted) (toldWritten (c .check .result)) after
+  promise : (after : List ℕ) → after ≡ outputAfter answer (writtenLine (the-record drafted)) out
+      → (toldWritten (c .check .result) ≡ answer) × (after ≡ outputAfter answer (writtenLine (the-record drafted)) out)
+      × Means (the-record drafted) (length out) (toldWritten (c .check .result)) × ReadsBack (the-record drafted) (toldWritten (c .check .result)) after
   promise after o =
       let e = c .check .ensures in (
         e,
         o,
-        subst (Means (connection drafted) (length out)) (sym e) (answer-means (connection drafted) (length out) (sized drafted)),
-        subst (λ (a : WriteAnswer). ReadsBack (connection drafted) a after) (sym e) (reads-back (connection drafted) out after (sized drafted) o),
+        subst (Means (the-record drafted) (length out)) (sym e) (answer-means (the-record drafted) (length out) (sized drafted)),
+        subst (λ (a : WriteAnswer). ReadsBack (the-record drafted) a after) (sym e) (reads-back (the-record drafted) out after (sized drafted) o),
       )
 
 check-requires : tie.Need-check-requires
@@ -85,7 +85,7 @@ returns c =
     let told = c .before in
     let d = told .before in
     promise d (out d)
-    (output-refused (answer d) (d .check .result) (d .check .ensures) (told .is-written .ensures) (writtenLine (connection (drafted d))) (out d) (not-true (told .is-written .result) (c .if1 .taken)))
+    (output-refused (answer d) (d .check .result) (d .check .ensures) (told .is-written .ensures) (writtenLine (the-record (drafted d))) (out d) (not-true (told .is-written .result) (c .if1 .taken)))
 
 returns-2 : tie.Need-returns-2
 returns-2 c =
@@ -93,9 +93,9 @@ returns-2 c =
     let left = written .before .before .before in
     let told = left .before in
     let d = told .before in
-    let line = writtenLine (connection (drafted d)) in
+    let line = writtenLine (the-record (drafted d)) in
     let some = is-wrote (answer d) (d .check .result) (d .check .ensures) (told .is-written .ensures) (not-false (told .is-written .result) (left .if1 .left)) in
-    let w = line-accepted (connection (drafted d)) (length (out d)) (some .0) (sized (drafted d)) (some .1) in
+    let w = line-accepted (the-record (drafted d)) (length (out d)) (some .0) (sized (drafted d)) (some .1) in
     promise d _
     (placed-start line (out d) _ (some .0)
     (written .put .ensures ∙ ap (λ (t : List ℕ). placed t 0 (out d)) (says (drafted d)))

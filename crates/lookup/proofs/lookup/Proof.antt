@@ -6,7 +6,7 @@ use native.Mathlib.Omega.{arith}
 use borrow.Author.Needs.{needs}
 use lib.ListN.{length}
 use Rattle.tlv.specs.Heads.{sizeAt, size-bytes}
-use Rattle.lookup.specs.Turn.{Left, left-start, left-ill, left-done, left-room, left-out, left-found, left-again}
+use Rattle.lookup.proofs.Turn.{Left, left-start, left-ill, left-done, left-room, left-out, left-found, left-again}
 use Rattle.lookup.proofs.lookup.Statement.{statement}
 use Rattle.lookup.proofs.lookup.Tie as tie
 

@@ -23,19 +23,19 @@ module _ (c : tie.After-block-length) where
   abbrev start : tie.Start
   start = c .before .before .before
 
-  abbrev connection : Record
-  connection = start .args .connection
+  abbrev the-record : Record
+  the-record = start .args .«record»
 
-  cleaned : cleanTest connection ≡ true
+  cleaned : cleanTest the-record ≡ true
   cleaned = sym (c .before .before .clean .ensures .0) ∙ not-false _ (c .before .if1 .left)
 
-  in-all : 6 + c .block-length .result ≡ length (stored connection)
-  in-all = let l = stored-length connection (in-memory connection _ (start .good .0)) in let e = c .block-length .ensures in omega arith
+  in-all : 6 + c .block-length .result ≡ length (stored the-record)
+  in-all = let l = stored-length the-record (in-memory the-record _ (start .good .0)) in let e = c .block-length .ensures in omega arith
 
 add-n : tie.Need-add-n
 add-n c =
-    let a = address-fits (connection c .kind) in
-    let p = port-fits (connection c .kind) in
+    let a = address-fits (the-record c .kind) in
+    let p = port-fits (the-record c .kind) in
     let e = c .block-length .ensures in
     omega arith
 
@@ -43,14 +43,14 @@ returns-2 : tie.Need-returns-2
 returns-2 c =
     let d = c .before in
     let size = in-all d in
-    let short : start d .args .room < length (stored (connection d)) = omega arith in
+    let short : start d .args .room < length (stored (the-record d)) = omega arith in
     simp (cleaned d, lt-leb _ _ short)
 
 returns-3 : tie.Need-returns-3
 returns-3 c =
     let d = c .before in
     let size = in-all d in
-    let long : length (stored (connection d)) ≤ start d .args .room = omega arith in
+    let long : length (stored (the-record d)) ≤ start d .args .room = omega arith in
     ap wrote size ∙ simp (cleaned d, le-leb _ _ long)
 
 pub check-spec : {M : Type 1} → statement M

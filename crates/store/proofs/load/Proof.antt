@@ -10,7 +10,7 @@ use denote.Ref.{now}
 use lib.ListN.{length, getD}
 use Rattle.exact.specs.Parser.{tail-all}
 use Rattle.record.specs.declared.Family.{Family}
-use Rattle.record.specs.Told.{toldFamily}
+use Rattle.record.specs.KnownFamily.{toldFamily}
 use Rattle.record.specs.AddressBlock.{blockRecord}
 use Rattle.exact.specs.Parser.{bytes-of}
 use Rattle.record.specs.AddressBlockLaws.{address-fits, port-fits}

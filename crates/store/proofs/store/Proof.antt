@@ -40,28 +40,28 @@ whole r sized code n d d₁ d₂ same size room e₁ e₂ =
     (e₁ ∙ ap (λ (c : ℕ). placed (mark ++ formVersion ++ c ∷ []) 0 d) same) e₂
 
 module _ (c : tie.After-check) where
-  abbrev connection : Record
-  connection = c .before .before .args .connection
+  abbrev the-record : Record
+  the-record = c .before .before .args .«record»
 
   abbrev out : List ℕ
   out = now (c .before .before .args .out)
 
   abbrev answer : WriteAnswer
-  answer = storeAnswer connection (length out)
+  answer = storeAnswer the-record (length out)
 
-  sized : Sized connection
-  sized = in-memory connection _ (c .before .before .good .0)
+  sized : Sized the-record
+  sized = in-memory the-record _ (c .before .before .good .0)
 
   -- an output as defined is what is promised, since the record is one in memory
-  promise : (after : List ℕ) → after ≡ outputAfter answer (stored connection) out
-      → (toldWritten (c .check .result) ≡ answer) × (after ≡ outputAfter answer (stored connection) out)
-      × Means connection (length out) (toldWritten (c .check .result)) × LoadsBack connection (toldWritten (c .check .result)) after
+  promise : (after : List ℕ) → after ≡ outputAfter answer (stored the-record) out
+      → (toldWritten (c .check .result) ≡ answer) × (after ≡ outputAfter answer (stored the-record) out)
+      × Means the-record (length out) (toldWritten (c .check .result)) × LoadsBack the-record (toldWritten (c .check .result)) after
   promise after o =
       let e = c .check .ensures in (
         e,
         o,
-        subst (Means connection (length out)) (sym e) (answer-means connection (length out) sized),
-        subst (λ (a : WriteAnswer). LoadsBack connection a after) (sym e) (loads-back connection out after sized o),
+        subst (Means the-record (length out)) (sym e) (answer-means the-record (length out) sized),
+        subst (λ (a : WriteAnswer). LoadsBack the-record a after) (sym e) (loads-back the-record out after sized o),
       )
 
 returns : tie.Need-returns
@@ -69,7 +69,7 @@ returns c =
     let told = c .before in
     let d = told .before in
     promise d (out d)
-    (output-refused (answer d) (d .check .result) (d .check .ensures) (told .is-written .ensures) (stored (connection d)) (out d) (not-true (told .is-written .result) (c .if1 .taken)))
+    (output-refused (answer d) (d .check .result) (d .check .ensures) (told .is-written .ensures) (stored (the-record d)) (out d) (not-true (told .is-written .result) (c .if1 .taken)))
 
 returns-2 : tie.Need-returns-2
 returns-2 c =
@@ -80,12 +80,12 @@ returns-2 c =
     let d = told .before in
     let some = is-wrote (answer d) (d .check .result) (d .check .ensures) (told .is-written .ensures) (not-false (told .is-written .result) (coded .before .if1 .left)) in
     let n = some .0 in
-    let w = store-written (connection d) (length (out d)) n (sized d) (some .1) in
-    let l = stored-length (connection d) (sized d) in
+    let w = store-written (the-record d) (length (out d)) n (sized d) (some .1) in
+    let l = stored-length (the-record d) (sized d) in
     promise d _
-    (whole (connection d) (sized d) (coded .code-of .result) n _ _ _ (coded .code-of .ensures) (omega arith) (w .2) (c₁ .put .ensures)
+    (whole (the-record d) (sized d) (coded .code-of .result) n _ _ _ (coded .code-of .ensures) (omega arith) (w .2) (c₁ .put .ensures)
     (c₂ .put-addresses .ensures)
-    ∙ output-written (answer d) (stored (connection d)) (out d) n (some .1))
+    ∙ output-written (answer d) (stored (the-record d)) (out d) n (some .1))
 
 pub store-spec : {M : Type 1} → statement M
 store-spec =

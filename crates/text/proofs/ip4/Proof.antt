@@ -16,8 +16,8 @@ use Rattle.exact.specs.Pick.{pick}
 use Rattle.exact.specs.Parser.{tail-all}
 use Rattle.exact.specs.Theorem.{leaf-claims}
 use Rattle.text.specs.declared.Octets.{Octets}
-use Rattle.exact.specs.Told.{told, heard}
-use Rattle.text.specs.Told.{toldOctets, Unused}
+use Rattle.exact.specs.Scans.{told, heard}
+use Rattle.text.specs.Octets.{toldOctets, Unused}
 use Rattle.text.specs.Decimal.{Digit}
 use Rattle.text.specs.Ip4.{Address}
 use Rattle.text.specs.Verdicts.{Within}

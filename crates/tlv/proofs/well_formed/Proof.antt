@@ -8,7 +8,7 @@ use native.Mathlib.Omega.{arith}
 use borrow.Author.Needs.{needs}
 use denote.Ref.{now}
 use lib.ListN.{length}
-use Rattle.exact.specs.Told.{told}
+use Rattle.exact.specs.Scans.{told}
 use Rattle.tlv.specs.Tlv.{WellFormed}
 use Rattle.tlv.specs.Whole.{Accepted, judged}
 use Rattle.tlv.proofs.well_formed.Statement.{statement}

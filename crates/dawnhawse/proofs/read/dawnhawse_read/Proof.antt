@@ -25,8 +25,8 @@ returns-3 c =
     let told = connected .before .before in
     let seen = told .before .before in
     let x = seen .before .before .before .before .before .before .args in
-    written (verdict (now (x .bytes))) (now (x .numbers)) (now (x .connection)) (seen .scan .result) (told .tell .result) (now (x .bytes)) _ _
-    (omega arith) (omega arith) (seen .scan .ensures .0 .answers) (told .tell .ensures) (put .put-numbers .ensures) (connected .put-seen .ensures)
+    written (verdict (now (x .bytes))) (now (x .numbers)) (now (x .connection)) (seen .see .result) (told .tell .result) (now (x .bytes)) _ _
+    (omega arith) (omega arith) (seen .see .ensures .0 .answers) (told .tell .ensures) (put .put-numbers .ensures) (connected .put-seen .ensures)
 
 pub dawnhawse-read-spec : {M : Type 1} → statement M
 dawnhawse-read-spec =

@@ -13,8 +13,8 @@ use borrow.Author.Needs.{needs}
 use Rattle.interface.proofs.connection.put_record.Statement.{statement}
 use Rattle.interface.proofs.connection.put_record.Tie as tie
 
-sized : (c : tie.Start) → Sized (c .args .caller)
-sized c = in-memory (c .args .caller) _ (c .good .0)
+sized : (c : tie.Start) → Sized (c .args .«record»)
+sized c = in-memory (c .args .«record») _ (c .good .0)
 
 returns : tie.Need-returns
 returns c = let x = c .before .before .args in cramped connectionSize (now (x .out)) _ _ (omega arith)
@@ -32,7 +32,7 @@ returns-2 c =
     let x = start .args in
     let size = sized start in
     put .put-connection .ensures
-    ∙ ap (λ (r : Record). over (connectionBytes r) (now (x .out))) (record-again (x .caller) (size .source) (size .destination))
+    ∙ ap (λ (r : Record). over (connectionBytes r) (now (x .out))) (record-again (x .«record») (size .source) (size .destination))
     ∙ roomy connectionSize (now (x .out)) _ _ (omega arith)
 
 pub put-record-spec : {M : Type 1} → statement M

@@ -6,7 +6,7 @@ use native.Mathlib.Omega.{arith}
 use denote.Ref.{now}
 use Rattle.record.specs.declared.Kind.{Kind}
 use Rattle.record.specs.declared.Record.{Record}
-use Rattle.record.specs.Told.{toldFamily}
+use Rattle.record.specs.KnownFamily.{toldFamily}
 use Rattle.interface.specs.declared.connection.Asked.{Asked}
 use Rattle.interface.specs.Connection.{byKind}
 use Rattle.interface.proofs.Given.{asks-length, asks-kind}
@@ -15,7 +15,7 @@ use Rattle.interface.proofs.connection.request.Statement.{statement}
 use Rattle.interface.proofs.connection.request.Tie as tie
 
 abbrev asked : ℕ → Record → Asked
-asked n r = record { number = n; connection = r }
+asked n r = record { number = n; «record» = r }
 
 returns : tie.Need-returns
 returns c =

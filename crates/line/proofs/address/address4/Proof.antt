@@ -1,5 +1,5 @@
 -- The octets stand at the front of what is stored, with zeros behind them.
-use Rattle.line.specs.AddressLaws.{told4, unused4}
+use Rattle.line.proofs.AddressLaws.{told4, unused4}
 use borrow.Author.Needs.{needs}
 use Rattle.line.proofs.address.address4.Statement.{statement}
 use Rattle.line.proofs.address.address4.Tie as tie

@@ -1,5 +1,5 @@
 -- The bytes of the groups fill what is stored.
-use Rattle.line.specs.AddressLaws.{told6, unused6}
+use Rattle.line.proofs.AddressLaws.{told6, unused6}
 use borrow.Author.Needs.{needs}
 use Rattle.line.proofs.address.address6.Statement.{statement}
 use Rattle.line.proofs.address.address6.Tie as tie

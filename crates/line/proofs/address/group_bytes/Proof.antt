@@ -1,6 +1,6 @@
 use mathlib.Core.Path.{_≡_}
 use lib.ListN.{length}
-use Rattle.line.specs.AddressLaws.{eight-bytes}
+use Rattle.line.proofs.AddressLaws.{eight-bytes}
 use native.Mathlib.Omega.{arith}
 use borrow.Author.Needs.{needs}
 use Rattle.line.proofs.address.group_bytes.Statement.{statement}

@@ -9,7 +9,7 @@ use lib.ListN.{length, take, drop, getD, getD-replicate, replicate, set, length-
 use lib.Seq.{drop-set-lt, drop-drop, take-suc-set, take-append-le, drop-append-le, getD-set-other, take-at, take-suc, getD-drop}
 use borrow.Author.Tests.{lt-ltb, le-ltb}
 use Rattle.ip6.specs.Machine.{plain, gapped, push, room}
-use Rattle.ip6.specs.Partial.{Partial, sofar, Sized, seenAt, seenOf}
+use Rattle.ip6.specs.Partial.{Partial, sofar, Sized, seenAt, gatheredOf}
 use Rattle.ip6.proofs.Spread.{count-length}
 
 -- ── the tests ──
@@ -31,16 +31,16 @@ module _ (x : Partial) (h : Sized x) where
       let b = length-drop (suc g) l in
       le-ltb (length (take g l) + length (drop (suc g) l)) 7 (omega arith)
 
-  pub has-room : x .count < 8 → room (seenOf x) ≡ true
+  pub has-room : x .count < 8 → room (gatheredOf x) ≡ true
   has-room n = room-at (x .gap) (x .count) held (count-length x h) (h .within) n
 
-  pub is-full : 8 ≤ x .count → room (seenOf x) ≡ false
+  pub is-full : 8 ≤ x .count → room (gatheredOf x) ≡ false
   is-full n = full-at (x .gap) (x .count) held (count-length x h) (h .within) n
 
-  pub none-seen : x .count ≡ 0 → seenOf x ≡ plain []
+  pub none-seen : x .count ≡ 0 → gatheredOf x ≡ plain []
   none-seen n = let a = h .within in let e : x .gap ≡ 0 = omega arith in rw (e, n)
 
-  pub plain-seen : x .gap ≡ 0 → seenOf x ≡ plain held
+  pub plain-seen : x .gap ≡ 0 → gatheredOf x ≡ plain held
   plain-seen e = rw e
 
 -- ── one group more ──
@@ -72,7 +72,7 @@ module _ (x : Partial) (h : Sized x) (room-here : x .count < 8) where
   held-more v = let a = h .eight in rw add-one (take-suc-set (x .groups) (x .count) v (omega arith))
 
   module _ (v : ℕ) where
-    pub push-seen : seenOf (pushed x v) ≡ push (seenOf x) v
+    pub push-seen : gatheredOf (pushed x v) ≡ push (gatheredOf x) v
     push-seen =
         let a = count-length x h in
         let b = h .within in
@@ -100,7 +100,7 @@ module _ (x : Partial) (h : Sized x) (room-here : x .count < 8) where
       ∙ ap (λ (l : List ℕ). getD l 0 0) (h .rest)
       ∙ getD-replicate (8 - x .count) 0 0 0 some
 
-  pub gap-seen : seenOf (opened x) ≡ gapped (take (x .count) (x .groups)) []
+  pub gap-seen : gatheredOf (opened x) ≡ gapped (take (x .count) (x .groups)) []
   gap-seen =
       let a = count-length x h in
       let b = h .eight in

@@ -1,4 +1,4 @@
--- For proofs. What the length of a kind's address block tells of its TLV area and its fields.
+-- What the length of a kind's address block tells of its TLV area and its fields.
 use mathlib.Core.Path.{_≡_, refl}
 use mathlib.Core.List.{List, []}
 use Prim.Native.Nat.{ℕ, _+_}

@@ -1,4 +1,4 @@
--- For proofs. A turn of a lookup's loop: what is known of the area and the answer where some TLVs are passed.
+-- A turn of a lookup's loop: what is known of the area and the answer where some TLVs are passed.
 use mathlib.Core.Path.{_≡_, refl, sym, ap, _∙_}
 use mathlib.Core.List.{List, [], _∷_}
 use Prim.Native.Nat.{ℕ, suc, _+_, _-_, _≤_, _<_}

@@ -1,4 +1,4 @@
--- For proofs. The parts of a block as the stages read them, in the terms of the record's definitions.
+-- The parts of a block as the stages read them, in the terms of the record's definitions.
 use mathlib.Core.Path.{_≡_, refl, sym, ap, ap₂, _∙_}
 use mathlib.Core.List.{List}
 use Prim.Native.Nat.{ℕ, zero, suc, _+_}

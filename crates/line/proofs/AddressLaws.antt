@@ -1,4 +1,4 @@
--- For proofs. The bytes of an address that the code gathers are those that its field says, with zeros behind them.
+-- The bytes of an address that the code gathers are those that its field says, with zeros behind them.
 use mathlib.Core.Path.{_≡_, refl, sym, ap, ap₂, _∙_, subst}
 use mathlib.Core.Bool.{Bool}
 use mathlib.Core.List.{List, [], _∷_}
@@ -10,7 +10,7 @@ use Rattle.exact.specs.Field.{Exact, after}
 use Rattle.exact.specs.declared.Scan.{Scan}
 use Rattle.exact.specs.declared.Scan.the-variants.{Accepted, More, Refused}
 use Rattle.exact.specs.Parser.{tail-all}
-use Rattle.exact.specs.Told.{heard, ZeroUnless}
+use Rattle.exact.specs.Scans.{heard, ZeroUnless}
 use Rattle.record.specs.declared.Kind.{Kind}
 use Rattle.record.specs.Kinds.{addressLength}
 use Rattle.ip6.specs.Bounds.{address-bounds}
@@ -18,7 +18,7 @@ use Rattle.header.specs.Line.{groupBytes}
 use Rattle.fields.specs.Exactness.{address4, groups, address6}
 use Rattle.answer.specs.declared.Caller.{Caller}
 use Rattle.answer.specs.Sight.{callerRecord, callerOf}
-use Rattle.line.specs.Families.{kindOf, toldBytes, padded, Unused, width, field}
+use Rattle.line.specs.Families.{tcpKind, toldBytes, padded, Unused, width, field}
 
 -- an accepted IPv4 address has four octets
 octets-four : (s octets : List ℕ) (n : ℕ) → accepted octets n ≡ address4 .verdict s → length octets ≡ 4
@@ -112,7 +112,7 @@ abbrev callerWith : Kind → List ℕ → List ℕ → ℕ → ℕ → Caller
 callerWith k from to p q = record { kind = k; source = from; destination = to; «source_port» = p; «destination_port» = q }
 
 -- a caller whose addresses have zeros behind them is that of its own record
-pub own-caller : (six : Bool) (k : Kind) (from to : List ℕ) (p q : ℕ) → k ≡ kindOf six → from ≡ padded (take (width six) from) → to ≡ padded (take (width six) to)
+pub own-caller : (six : Bool) (k : Kind) (from to : List ℕ) (p q : ℕ) → k ≡ tcpKind six → from ≡ padded (take (width six) from) → to ≡ padded (take (width six) to)
     → callerOf (callerRecord (callerWith k from to p q)) ≡ callerWith k from to p q
 own-caller six k from to p q e source destination =
     ap₂ (λ (x y : List ℕ). callerWith k x y p q) (again from source) (again to destination)

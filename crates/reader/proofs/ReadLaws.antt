@@ -1,4 +1,4 @@
--- For proofs. The first byte tells the version.
+-- The first byte tells the version.
 use mathlib.Core.Path.{_≡_, refl, sym, ap, subst}
 use mathlib.Core.Bool.{Bool, true, false}
 use mathlib.Core.List.{List, [], _∷_}

@@ -1,4 +1,4 @@
--- For proofs. The verdict from a TLV of the area on: what a loop over TLVs finds at their heads, and that the bytes of a value can be passed over.
+-- The verdict from a TLV of the area on: what a loop over TLVs finds at their heads, and that the bytes of a value can be passed over.
 use mathlib.Core.Path.{_≡_, refl, sym, ap, _∙_}
 use mathlib.Core.Bool.{Bool, true, false}
 use mathlib.Core.List.{List}

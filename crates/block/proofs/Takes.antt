@@ -1,4 +1,4 @@
--- For proofs. Fields of a number of bytes that is known: on fewer bytes the verdict is more.
+-- Fields of a number of bytes that is known: on fewer bytes the verdict is more.
 use mathlib.Core.Path.{_≡_, refl, sym, ap, _∙_}
 use mathlib.Core.Bool.{Bool, true, false}
 use mathlib.Core.List.{List}

@@ -1,4 +1,4 @@
--- For proofs. The verdicts of the leaves of a block on bytes, by the tests that the code makes.
+-- The verdicts of the leaves of a block on bytes, by the tests that the code makes.
 use mathlib.Core.Path.{_≡_, refl, ap, _∙_}
 use mathlib.Core.Bool.{Bool, true, false}
 use mathlib.Core.List.{List, [], _∷_}
@@ -21,8 +21,8 @@ use Rattle.record.specs.declared.Kind.{Kind}
 use Rattle.record.specs.declared.Kind.the-variants.{Local, Unspecified, Ip4, Ip6, Unix}
 use Rattle.record.specs.Kinds.{portLength}
 use Rattle.fields.specs.BlockFields.{always, fits, port, area, tlvs}
-use Rattle.block.specs.Parts.{portAt}
-use Rattle.block.specs.Takes.{Short, Takes, next, next-full, then-short}
+use Rattle.block.proofs.Parts.{portAt}
+use Rattle.block.proofs.Takes.{Short, Takes, next, next-full, then-short}
 
 -- ── no bytes ──
 pub takes-none : {A : Type 0} (a : A) → Takes (λ t. accepted a 0) 0 (λ t. a)

@@ -1,4 +1,4 @@
--- For proofs. What a whole version 2 header answers.
+-- What a whole version 2 header answers.
 use mathlib.Core.Path.{_≡_, ap, _∙_}
 use mathlib.Core.List.{List}
 use Prim.Native.Nat.{ℕ, _+_, _≤_}

@@ -1,8 +1,8 @@
 -- The first byte tells the version, and each version's reader answers its field's verdict.
-use Rattle.reader.specs.ReadLaws.{reads-as, none-yet, of-line, of-block}
+use Rattle.reader.proofs.ReadLaws.{reads-as, none-yet, of-line, of-block}
 use borrow.Author.Needs.{needs}
-use Rattle.reader.proofs.scan.Statement.{statement}
-use Rattle.reader.proofs.scan.Tie as tie
+use Rattle.reader.proofs.see.Statement.{statement}
+use Rattle.reader.proofs.see.Tie as tie
 
 returns : tie.Need-returns
 returns c =
@@ -19,7 +19,7 @@ returns-3 c =
     let start = c .before .before .before .before .before in
     reads-as (c .block .ensures) (of-block (start .args .s .now) (c .before .before .before .if1 .left) (c .before .if2 .left))
 
-pub scan-spec : {M : Type 1} → statement M
-scan-spec =
+pub see-spec : {M : Type 1} → statement M
+see-spec =
     tie.close
     (tie.spec (λ c κs. search needs) returns (λ c. search needs) (λ c κs. search needs) (λ c κs. search needs) returns-2 returns-3)

@@ -1,4 +1,4 @@
--- For proofs. The verdict on the address block and the TLVs: more while the block is short, and else that on the TLVs, with the record that the
+-- The verdict on the address block and the TLVs: more while the block is short, and else that on the TLVs, with the record that the
 -- block says.
 use mathlib.Core.Path.{_≡_, refl, sym, ap, _∙_}
 use mathlib.Core.List.{List}
@@ -21,11 +21,11 @@ use Rattle.answer.specs.declared.Seen.{Seen}
 use Rattle.answer.specs.Answers.{areaOf}
 use Rattle.answer.specs.Sight.{Sees}
 use Rattle.answer.specs.StageLaws.{sees-as, as-more, as-refused, as-accepted}
-use Rattle.block.specs.Parts.{portAt, recordAt, record-at}
-use Rattle.block.specs.Takes.{Short, Takes, then-short, then-at}
-use Rattle.block.specs.Leaves.{takes-count, takes-spelled, takes-port, area-judged}
-use Rattle.block.specs.KindLaws.{block-kind}
-use Rattle.block.specs.Accepted.{as-block, area-at}
+use Rattle.block.proofs.Parts.{portAt, recordAt, record-at}
+use Rattle.block.proofs.Takes.{Short, Takes, then-short, then-at}
+use Rattle.block.proofs.Leaves.{takes-count, takes-spelled, takes-port, area-judged}
+use Rattle.block.proofs.KindLaws.{block-kind}
+use Rattle.block.proofs.AcceptedLaws.{as-block, area-at}
 
 reach-spell : (v : Verdict ℕ) (t : List ℕ) → reach (spell v t) ≡ reach v
 reach-spell (accepted x n) t = refl

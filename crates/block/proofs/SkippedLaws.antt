@@ -1,4 +1,4 @@
--- For proofs. The verdict on a block that is not looked at: its length decides.
+-- The verdict on a block that is not looked at: its length decides.
 use mathlib.Core.Path.{_≡_, sym, ap, _∙_}
 use mathlib.Core.List.{List, []}
 use Prim.Native.Nat.{ℕ, _+_, _≤_, _<_}
@@ -12,9 +12,9 @@ use Rattle.exact.specs.Byte.{count, countVerdict}
 use Rattle.record.specs.declared.Record.{Record}
 use Rattle.header.specs.Header.{Header}
 use Rattle.fields.specs.BlockFields.{blocked, anyLength, skipped}
-use Rattle.block.specs.Parts.{number-at}
-use Rattle.block.specs.Takes.{Short, next-short, then-at, short-at}
-use Rattle.block.specs.Leaves.{takes-number, takes-count}
+use Rattle.block.proofs.Parts.{number-at}
+use Rattle.block.proofs.Takes.{Short, next-short, then-at, short-at}
+use Rattle.block.proofs.Leaves.{takes-number, takes-count}
 
 skipped-two : (r : Record) → Short (skipped r .verdict) 2
 skipped-two r = next-short (anyLength .verdict) (λ n. (count 9 n then λ u. just (blocked r [])) .verdict) 2 (takes-number 8 .short)

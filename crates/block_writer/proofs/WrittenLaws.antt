@@ -1,4 +1,4 @@
--- For proofs. How long what is written is.
+-- How long what is written is.
 use Prim.Native.Nat.{ℕ, _+_}
 use mathlib.Core.Path.{_≡_, ap, _∙_}
 use mathlib.Core.List.{List}

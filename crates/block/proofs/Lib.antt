@@ -1,0 +1,7 @@
+pub mod AddressLaws
+pub mod SkippedLaws
+pub mod AcceptedLaws
+pub mod KindLaws
+pub mod Leaves
+pub mod Parts
+pub mod Takes
