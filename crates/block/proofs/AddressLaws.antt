@@ -11,7 +11,7 @@ use Rattle.exact.specs.Field.{shift}
 use Rattle.exact.specs.Parser.{Parser, just, _then_, spell, reach, reach-le}
 use Rattle.exact.specs.Byte.{countVerdict}
 use Rattle.record.specs.declared.Kind.{Kind}
-use Rattle.tlv.specs.Region.{judge}
+use Rattle.tlv.specs.RegionVerdict.{judge}
 use Rattle.record.specs.Kinds.{addressLength, portLength, blockLength}
 use Rattle.record.specs.Records.{recordOf}
 use Rattle.record.specs.AddressBlock.{blockRecord}

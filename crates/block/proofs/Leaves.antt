@@ -16,7 +16,7 @@ use Rattle.exact.specs.Pick.{pick}
 use Rattle.exact.specs.Byte.{stepByte, found, stepCount, counted, countVerdict}
 use Rattle.exact.specs.Network.{numberAt}
 use Rattle.exact.specs.Number.{any, low}
-use Rattle.tlv.specs.Region.{judge, step, typeByte}
+use Rattle.tlv.specs.RegionVerdict.{judge, step, typeByte}
 use Rattle.record.specs.declared.Kind.{Kind}
 use Rattle.record.specs.declared.Kind.the-variants.{Local, Unspecified, Ip4, Ip6, Unix}
 use Rattle.record.specs.Kinds.{portLength}

@@ -10,7 +10,7 @@ use lib.Seq.{drop-drop}
 use borrow.Author.Tests.{ltb-true, ltb-false}
 use Rattle.exact.specs.Claim.{Verdict, accepted, more, AllBytes}
 use Rattle.exact.specs.Field.{after, shift}
-use Rattle.exact.specs.Machine.{shift-shift}
+use Rattle.exact.specs.MachineLaws.{shift-shift}
 pub use Rattle.exact.specs.Parser.{bytes-of, bytes-drop}
 
 -- ── fields of n bytes ──

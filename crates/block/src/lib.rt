@@ -21,10 +21,9 @@ ghost use Prim.Native.Nat.{ℕ};
 ghost use lib.ListN.{drop, take};
 ghost use Rattle.exact.specs.Claim.{accepted as acceptedOf};
 ghost use Rattle.exact.specs.Field.{shift};
-ghost use Rattle.exact.specs.Parser.{_then_};
 ghost use Rattle.record.specs.Kinds.{blockLength};
 ghost use Rattle.record.specs.Records.{bare};
-ghost use Rattle.fields.specs.BlockFields.{blocked, block as blockField, command as commandField, commandRest, familyField, familyRest, skipped as skippedField, addressed as addressedField, addresses as addressesField, fits as fitsIn};
+ghost use Rattle.fields.specs.BlockFields.{blocked, block as blockField, fromCommand, fromFamily, familyRest, skipped as skippedField, addressed as addressedField, addresses as addressesField, fits as fitsIn};
 ghost use Rattle.record.specs.AddressBlock.{blockRecord};
 ghost use Rattle.answer.specs.Answers.{areaOf};
 ghost use Rattle.answer.specs.Sight.{Sees};
@@ -114,7 +113,7 @@ fn family_rest(s: &[u8], kind: Kind) -> Seen
 
 // From byte 13 on, under PROXY.
 fn proxy(s: &[u8]) -> Seen
-    ensures { λ r. ⌜ Sees (now (s .entry)) (shift 13 ((familyField then familyRest) .verdict (drop 13 (now (s .entry))))) r ⌝ }
+    ensures { λ r. ⌜ Sees (now (s .entry)) (shift 13 (fromFamily .verdict (drop 13 (now (s .entry))))) r ⌝ }
 {
     if s.len() <= 13 {
         return more();
@@ -127,7 +126,7 @@ fn proxy(s: &[u8]) -> Seen
 
 // From byte 12 on; under LOCAL byte 13 is not looked at.
 fn command(s: &[u8]) -> Seen
-    ensures { λ r. ⌜ Sees (now (s .entry)) (shift 12 ((commandField then commandRest) .verdict (drop 12 (now (s .entry))))) r ⌝ }
+    ensures { λ r. ⌜ Sees (now (s .entry)) (shift 12 (fromCommand .verdict (drop 12 (now (s .entry))))) r ⌝ }
 {
     if s.len() <= 12 {
         return more();

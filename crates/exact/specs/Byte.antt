@@ -9,7 +9,8 @@ use lib.ListN.{length, replicate, length-replicate}
 use borrow.Author.Tests.{ltb-true, ltb-false}
 use Rattle.exact.specs.Claim.{Verdict, accepted, more, AllBytes}
 use Rattle.exact.specs.Field.{Exact}
-use Rattle.exact.specs.Machine.{leaf, Move, go, done, dead, Sound, run, machine-exact}
+use Rattle.exact.specs.MachineLaws.{machine-exact, Sound}
+use Rattle.exact.specs.Machine.{leaf, Move, go, done, dead, run}
 use Rattle.exact.specs.Pick.{pick, pick-by}
 use Rattle.exact.specs.Parser.{Parser}
 

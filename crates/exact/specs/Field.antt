@@ -1,4 +1,4 @@
--- For proofs: a field is a language with a value, and for each prefix the number of the part that the next byte is in; `Exact` is the claim of a
+-- A field is a language with a value, and for each prefix the number of the part that the next byte is in; `Exact` is the claim of a
 -- verdict with the splits of the bytes as witnesses, so that it composes.
 use mathlib.Core.Path.{_≡_}
 use mathlib.Core.List.{List, [], _∷_, _++_}

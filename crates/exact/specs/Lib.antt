@@ -6,11 +6,13 @@ pub mod Field
 pub mod Sequence
 pub mod Choice
 pub mod Machine
+pub mod MachineLaws
 pub mod Parser
 pub mod Stage
 pub mod Unique
 pub mod Theorem
 pub mod Literal
+pub mod LiteralLaws
 pub mod Byte
 pub mod Number
 pub mod Ended

@@ -14,7 +14,8 @@ use Rattle.exact.specs.Machine.{leaf}
 use Rattle.exact.specs.Pick.{pick, both}
 use Rattle.exact.specs.Parser.{Parser, Starts, just, _then_, either}
 use Rattle.exact.specs.Unique.{fronts, unique}
-use Rattle.exact.specs.Literal.{Literal, text}
+use Rattle.exact.specs.LiteralLaws.{text}
+use Rattle.exact.specs.Literal.{Literal}
 
 module _ (number : List ℕ → ℕ) where
   abbrev pub Numbered : {A : Type 0} → Field A → List ℕ → Type 0

@@ -13,7 +13,8 @@ use Rattle.exact.specs.Claim.{Verdict, accepted, more, refused, AllBytes
 use Rattle.exact.specs.Ended.{Ended}
 use Rattle.exact.specs.Field.{Field, Begins, Opens, Exact, seq, after}
 use Rattle.exact.specs.Sequence.{begins-more, seq-exact, opens-first}
-use Rattle.exact.specs.Machine.{leaf, Move, go, Runs, run, runs-exact}
+use Rattle.exact.specs.MachineLaws.{runs-exact}
+use Rattle.exact.specs.Machine.{leaf, Move, go, Runs, run}
 use Rattle.exact.specs.Choice.{pure, pure-exact, alt, choose, alt-exact}
 
 -- every whole field is of bytes

@@ -8,7 +8,7 @@ use lib.ListN.{length, drop, length-drop}
 use lib.Seq.{drop-drop}
 use Rattle.exact.specs.Claim.{Verdict, accepted, refused}
 use Rattle.exact.specs.Field.{Exact, after, shift}
-use Rattle.exact.specs.Machine.{shift-shift}
+use Rattle.exact.specs.MachineLaws.{shift-shift}
 use Rattle.exact.specs.Parser.{Parser, _then_, reach-le}
 
 module _ {A : Type 0} (P : Parser A) (s : List ℕ) (at : ℕ) (inside : at ≤ length s) where

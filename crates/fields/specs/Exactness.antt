@@ -11,7 +11,7 @@ use Rattle.exact.specs.Ended.{Ended}
 use Rattle.exact.specs.Field.{Opens}
 use Rattle.exact.specs.Machine.{leaf}
 use Rattle.exact.specs.Parser.{Parser, Starts, just, _then_, either, recast, starts-seq}
-use Rattle.exact.specs.Literal.{starts-text}
+use Rattle.exact.specs.LiteralLaws.{starts-text}
 use Rattle.exact.specs.Numbered.{Numbered, numbered-either}
 use Rattle.exact.specs.Theorem.{claim-holds, claim-only, claim-stays, whole-only, bytes-suffice}
 use Rattle.text.specs.Ip4.{Address as Ip4Address}
@@ -20,8 +20,10 @@ use Rattle.ip6.specs.Parser.{ip6, space-ends}
 use Rattle.header.specs.Line.{Ip6Address, groupBytes, Line}
 use Rattle.header.specs.Header.{Header, Whole, number}
 use Rattle.header.specs.Demand.{Judges}
-use Rattle.fields.specs.LineFields.{line, line-same, Lined}
-use Rattle.fields.specs.BlockFields.{block, block-same}
+use Rattle.fields.specs.LineMembers.{line-same, Lined}
+use Rattle.fields.specs.LineFields.{line}
+use Rattle.fields.specs.BlockMembers.{block-same}
+use Rattle.fields.specs.BlockFields.{block}
 use Rattle.fields.specs.Places.{AddressField, ip4-clear, ip6-clear, numbered-ended, numbered-line, numbered-block}
 
 -- ── the address fields ──

@@ -17,7 +17,7 @@ use Rattle.exact.specs.Parser.{bytes-back}
 use Rattle.exact.specs.Byte.{zeros}
 use Rattle.text.specs.Line.{CR, NoEnd}
 use Rattle.text.specs.Ip4.{Address as Ip4Address}
-use Rattle.text.specs.Ip4Leaf.{ip4Verdict}
+use Rattle.text.specs.Ip4Verdict.{ip4Verdict}
 use Rattle.text.specs.Laws.{decimal-length, address-length}
 use Rattle.ip6.specs.Address.{hexOf}
 use Rattle.ip6.specs.Bounds.{address-bounds}
@@ -32,7 +32,7 @@ use Rattle.header.specs.Line.{TcpLine, Ip6Address, UnknownLine}
 use Rattle.header.specs.Block.{signature, LOCAL, PROXY, HasAddresses, AddressBlock, Block}
 use Rattle.header.specs.Header.{Header, Whole}
 use Rattle.header.specs.Demand.{Judges}
-use Rattle.fields.specs.BlockFields.{addresses-length}
+use Rattle.fields.specs.BlockMembers.{addresses-length}
 use Rattle.fields.specs.Exactness.{verdict, judges-stays}
 use Rattle.fields.specs.FactsForProofs.{by-verdict, framed-length, block-bounds, header-least, kept, tcp-kept, group-bytes, unknown-verdict, rest-more, rest-refused, number-eight, high-lives, length-verdict}
 

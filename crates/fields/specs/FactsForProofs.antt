@@ -32,7 +32,8 @@ use Rattle.header.specs.Block.{signature, LOCAL, PROXY, Framed, HasAddresses, p
 use Rattle.header.specs.Header.{Header, Whole, number, blockNumber, lineNumber, partsEnded}
 use Rattle.header.specs.Demand.{Judges}
 use Rattle.fields.specs.LineFields.{lined, restField}
-use Rattle.fields.specs.BlockFields.{blocked, fits, addressed, familyRest, block-small, addresses-length}
+use Rattle.fields.specs.BlockMembers.{addresses-length}
+use Rattle.fields.specs.BlockFields.{blocked, fits, addressed, familyRest, block-small}
 use Rattle.fields.specs.Exactness.{verdict, judges, bytes-enough}
 
 pub by-verdict : (v : Verdict Header) (s : List ℕ) → verdict s ≡ v → Judges v s

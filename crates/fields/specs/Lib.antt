@@ -1,5 +1,7 @@
 pub mod LineFields
+pub mod LineMembers
 pub mod BlockFields
+pub mod BlockMembers
 pub mod Places
 pub mod Exactness
 pub mod TableRight

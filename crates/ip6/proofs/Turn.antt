@@ -7,7 +7,8 @@ use lib.Dec.{eqb}
 use Rattle.exact.specs.Claim.{Verdict, accepted, refused}
 use Rattle.exact.specs.Pick.{pick-by}
 use Rattle.exact.specs.declared.Scan.{Scan}
-use Rattle.exact.specs.Machine.{Move, go, done, dead, from, from-go, from-done, from-dead, from-end}
+use Rattle.exact.specs.MachineLaws.{from-go, from-done, from-dead, from-end}
+use Rattle.exact.specs.Machine.{Move, go, done, dead, from}
 use Rattle.exact.specs.declared.Scan.the-variants.{More, Refused}
 use Rattle.ip6.specs.Machine.{Gathered, plain, gapped, State, finish, step}
 use Rattle.ip6.specs.Answer.{From, closed, Closed}

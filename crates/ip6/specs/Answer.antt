@@ -1,4 +1,4 @@
--- For proofs. What the answer of a part of the reading says.
+-- What the answer of a part of the reading says.
 use mathlib.Core.Path.{_≡_}
 use mathlib.Core.List.{List}
 use Prim.Native.Nat.{ℕ, zero, suc, _+_}

@@ -1,4 +1,4 @@
--- For proofs. The machine that reads an address a byte at a time: where it may stand, and what a byte does there.
+-- The machine that reads an address a byte at a time: where it may stand, and what a byte does there.
 use mathlib.Core.Bool.{Bool}
 use mathlib.Core.List.{List, [], _∷_, _++_}
 use Prim.Native.Nat.{ℕ, _+_, _*_}

@@ -1,4 +1,4 @@
--- For proofs. What an address so far, as the code holds it, is to the machine.
+-- What an address so far, as the code holds it, is to the machine.
 use mathlib.Core.Path.{_≡_}
 use mathlib.Core.List.{List, _++_}
 use Prim.Native.Nat.{ℕ, zero, suc, _-_, _≤_}

@@ -5,7 +5,8 @@ use mathlib.Core.List.{List, [], _∷_}
 use Prim.Native.Nat.{ℕ, _+_, _*_, _<_}
 use native.Mathlib.Omega.{arith}
 use borrow.Author.Tests.{lt-ltb, le-ltb, eq-eqb, ne-eqb}
-use Rattle.exact.specs.Machine.{go, done, dead, Runs, runs-at}
+use Rattle.exact.specs.MachineLaws.{runs-at}
+use Rattle.exact.specs.Machine.{go, done, dead, Runs}
 use Rattle.ip6.specs.Address.{hexOf, filled, Ending}
 use Rattle.ip6.specs.Hex.{hex-colon}
 use Rattle.ip6.specs.Machine.{Gathered, plain, push, room, State, digits, colon, gap, finish, follow, inside, step}

@@ -9,7 +9,8 @@ use lib.Dec.{ltb}
 use lib.ListN.{length, length-append}
 use borrow.Author.Tests.{ltb-true, lt-ltb, eq-eqb, ne-eqb}
 use Rattle.exact.specs.Ended.{Ended}
-use Rattle.exact.specs.Machine.{dead, Runs, runs-at}
+use Rattle.exact.specs.MachineLaws.{runs-at}
+use Rattle.exact.specs.Machine.{dead, Runs}
 use Rattle.ip6.specs.Address.{hexOf, HexDigits, number, Group, Groups, Full, Side, filled, Shortened, Address, Ending}
 use Rattle.ip6.specs.Machine.{Gathered, plain, gapped, push, room, State, start, digits, behind, colon, gap, inside, step}
 use Rattle.ip6.specs.Read.{Fits}

@@ -1,7 +1,4 @@
 // The version 1 line, a field at a time: a stage stands at a place of the bytes, reads its field, and hands on to the next.
-mod address;
-
-use address::address;
 use answer::Caller;
 use answer::Refusal;
 use answer::Seen;
@@ -11,6 +8,7 @@ use answer::of_kind;
 use answer::refused;
 use exact::Scan;
 use exact::literal;
+use line_address::address;
 use record::Kind;
 use record::Transport;
 ghost use mathlib.Core.Path.{_≡_};
@@ -20,8 +18,8 @@ ghost use Rattle.exact.specs.Field.{shift};
 ghost use Rattle.fields.specs.LineFields.{lined, lineFeed, fromDestinationPort, fromSourcePort, fromDestination, fromSource, tcps, unknownEnd, unknown};
 ghost use Rattle.fields.specs.Exactness.{address4, address6, lineField};
 ghost use Rattle.answer.specs.Sight.{callerRecord, callerOf, Sees};
-ghost use Rattle.line.specs.Families.{tcpKind, width, field, padded};
-ghost use Rattle.line.specs.Choices.{fromSpace, isFamily, families, fromRest, words};
+ghost use Rattle.line_address.specs.Families.{tcpKind, width, field, padded};
+ghost use Rattle.line.specs.Stages.{fromSpace, isFamily, families, fromRest, words};
 
 // TCP6 if six, else TCP4.
 fn tcp_kind(six: bool) -> Kind

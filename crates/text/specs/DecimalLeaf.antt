@@ -1,4 +1,4 @@
--- For proofs. The leaf of decimal text that a byte ends: its machine, and that its verdicts are exact.
+-- For proofs. The leaf of decimal text that a byte ends: its verdicts are exact.
 use mathlib.Core.Path.{_≡_, refl, sym, subst}
 use mathlib.Core.List.{List, [], _∷_}
 use mathlib.Core.Logic.{⊎-elim, _↔_}
@@ -8,33 +8,17 @@ use native.Mathlib.Omega.{arith}
 use lib.Dec.{eqb, leb}
 use lib.ListN.{length}
 use borrow.Author.Tests.{eqb-true, eqb-false, eq-eqb, ne-eqb, leb-true, leb-false, le-leb, lt-leb}
-use Rattle.exact.specs.Claim.{Verdict, AllBytes}
+use Rattle.exact.specs.Claim.{AllBytes}
 use Rattle.exact.specs.Field.{Exact}
-use Rattle.exact.specs.Machine.{leaf, Move, go, done, dead, Sound, run, machine-exact}
-use Rattle.exact.specs.Pick.{pick, pick-by}
+use Rattle.exact.specs.MachineLaws.{machine-exact, Sound}
+use Rattle.exact.specs.Machine.{leaf, Move, go, done, dead}
+use Rattle.exact.specs.Pick.{pick-by}
 use Rattle.exact.specs.Parser.{Parser, ended-bytes}
 use Rattle.exact.specs.Ended.{Ended}
 use Rattle.text.specs.Decimal.{Digit, Digits, Plain, valueOn, Decimal}
 use Rattle.text.specs.Verdicts.{Within, Keeps, run-within}
 use Rattle.text.specs.Endings.{ended-solid, ended-first, ended-more, ended-last, ended-map}
-
--- ── the machine ──
--- nothing yet, or digits that make a number
-pub data At : Type 0 where
-  start : At
-  behind : ℕ → At
-
--- a digit behind those that make n
-abbrev pub digit : ℕ → ℕ → ℕ → Move At ℕ
-digit bound n c =
-    pick (leb 48 c) (pick (leb c 57) (pick (leb (n * 10 + (c - 48)) bound) (go (behind (n * 10 + (c - 48)))) dead) dead) dead
-
-abbrev pub stepDecimal : ℕ → ℕ → At → ℕ → Move At ℕ
-stepDecimal bound end start c = digit bound 0 c
-stepDecimal bound end (behind n) c = pick (eqb c end) (done n) (pick (eqb n 0) dead (digit bound n c))
-
-abbrev pub decimalVerdict : (k bound end : ℕ) → List ℕ → Verdict ℕ
-decimalVerdict k bound end s = run k (stepDecimal bound end) s start
+use Rattle.text.specs.DecimalVerdict.{At, start, behind, digit, stepDecimal, decimalVerdict}
 
 -- ── what may follow ──
 -- the digits f behind those that make m

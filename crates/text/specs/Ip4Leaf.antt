@@ -10,26 +10,16 @@ use lib.ListN.{length, take, drop, set}
 use lib.Seq.{take-all, take-suc-set, drop-drop}
 use Rattle.exact.specs.Claim.{Verdict, accepted, more, refused}
 use Rattle.exact.specs.Field.{Exact, Opens, after, shift}
-use Rattle.exact.specs.Machine.{leaf, shift-shift}
-use Rattle.exact.specs.Pick.{pick, pick-by}
+use Rattle.exact.specs.MachineLaws.{shift-shift, shift-zero}
+use Rattle.exact.specs.Machine.{leaf}
+use Rattle.exact.specs.Pick.{pick-by}
 use Rattle.exact.specs.Parser.{Parser, InBytes, just, _then_, recast}
 use Rattle.exact.specs.Ended.{Ended}
 use Rattle.text.specs.Decimal.{Digit}
 use Rattle.text.specs.Ip4.{Address}
-use Rattle.text.specs.DecimalLeaf.{decimalVerdict, decimal}
-
--- the byte that ends an octet which m others follow
-abbrev pub endOf : ℕ → ℕ → ℕ
-endOf end m = pick (eqb m 0) end 46
-
--- the verdict on m octets behind those given
-abbrev pub octetsVerdict : (k end m : ℕ) → List ℕ → List ℕ → Verdict (List ℕ)
-octetsVerdict k end zero octets s = accepted octets 0
-octetsVerdict k end (suc m) octets s =
-    after (decimalVerdict k 255 (endOf end m) s) (λ n r. octetsVerdict k end m (octets ++ n ∷ []) r) s
-
-unfoldable pub ip4Verdict : (k end : ℕ) → List ℕ → Verdict (List ℕ)
-ip4Verdict k end = octetsVerdict k end 4 []
+use Rattle.text.specs.DecimalVerdict.{decimalVerdict}
+use Rattle.text.specs.DecimalLeaf.{decimal}
+use Rattle.text.specs.Ip4Verdict.{endOf, octetsVerdict, ip4Verdict}
 
 module _ (k end : ℕ) (apart : Digit end → ⊥) (small : end < 256) where
   end-apart : (m : ℕ) → Digit (endOf end m) → ⊥
@@ -128,11 +118,6 @@ module _ (k end : ℕ) (apart : Digit end → ⊥) (small : end < 256) where
         bytes = ip4-bytes;
       }
 
-shift-zero : {A : Type 0} (v : Verdict A) → v ≡ shift 0 v
-shift-zero (accepted a n) = ap (λ (m : ℕ). accepted a m) (omega arith)
-shift-zero more = refl
-shift-zero (refused k p) = ap (λ (m : ℕ). refused k m) (omega arith)
-
 -- ── the verdict from the octet i on, at the index at, as a loop finds it ──
 module _ (k end : ℕ) (s : List ℕ) where
   abbrev pub octetsFrom : (i : ℕ) → (octets : List ℕ) → (at : ℕ) → Verdict (List ℕ)
@@ -140,7 +125,7 @@ module _ (k end : ℕ) (s : List ℕ) where
 
   pub octets-start : (octets : List ℕ) → ip4Verdict k end s ≡ octetsFrom 0 octets 0
   unfolding ip4Verdict
-  octets-start octets = shift-zero (octetsVerdict k end 4 [] s)
+  octets-start octets = sym (shift-zero (octetsVerdict k end 4 [] s))
 
   pub octets-end : (i : ℕ) (octets : List ℕ) (at : ℕ) → i ≡ 4 → length octets ≡ 4 → accepted octets at ≡ octetsFrom i octets at
   octets-end i octets at e size =

@@ -4,9 +4,12 @@ pub mod Line
 pub mod Octets
 pub mod Verdicts
 pub mod Endings
+pub mod DecimalVerdict
 pub mod DecimalLeaf
 pub mod Grows
+pub mod Ip4Verdict
 pub mod Ip4Leaf
+pub mod LineVerdict
 pub mod LineLeaf
 pub mod LongLine
 pub mod Laws

@@ -1,4 +1,4 @@
--- For proofs. The leaf of an UNKNOWN line's end: its machine, and that its verdicts are exact.
+-- For proofs. The leaf of an UNKNOWN line's end: its verdicts are exact.
 use mathlib.Core.Path.{_≡_, refl, sym, ap, _∙_, subst}
 use mathlib.Core.Bool.{Bool, true, false}
 use mathlib.Core.List.{List, [], _∷_, _++_}
@@ -8,33 +8,15 @@ use native.Mathlib.Omega.{arith}
 use lib.Dec.{eqb, leb, ltb}
 use lib.ListN.{length, length-append}
 use borrow.Author.Tests.{eqb-true, eqb-false, eq-eqb, ne-eqb, leb-true, leb-false, le-leb, lt-leb, ltb-true, ltb-false, lt-ltb}
-use Rattle.exact.specs.Claim.{Verdict, AllBytes}
+use Rattle.exact.specs.Claim.{AllBytes}
 use Rattle.exact.specs.Field.{Exact}
-use Rattle.exact.specs.Machine.{leaf, Move, go, done, dead, Sound, run, machine-exact}
-use Rattle.exact.specs.Pick.{pick, pick-by}
+use Rattle.exact.specs.MachineLaws.{machine-exact, Sound}
+use Rattle.exact.specs.Machine.{leaf, go, done, dead}
+use Rattle.exact.specs.Pick.{pick-by}
 use Rattle.exact.specs.Parser.{Parser, bytes-append}
 use Rattle.exact.specs.Valueless.{Valueless}
 use Rattle.text.specs.Line.{NoEnd, FirstEnd}
-
--- ── the machine ──
--- whether the last byte was CR, and how many bytes may still come
-pub data Line : Type 0 where
-  line : Bool → ℕ → Line
-
--- the fewest bytes of a line that begins with c and not with its end: CR and LF behind c, or LF where c is CR
-abbrev pub least : Bool → ℕ
-least is-cr = pick is-cr 2 3
-
--- a byte that does not end the line
-abbrev pub pass : Bool → ℕ → ℕ → Move Line ℕ
-pass is-cr left c = pick (leb (least is-cr) left) (pick (ltb c 256) (go (line is-cr (left - 1))) dead) dead
-
-abbrev pub stepLine : Line → ℕ → Move Line ℕ
-stepLine (line true left) c = pick (eqb c 10) (done 0) (pass (eqb c 13) left c)
-stepLine (line false left) c = pass (eqb c 13) left c
-
-abbrev pub lineVerdict : (k limit : ℕ) → List ℕ → Verdict ℕ
-lineVerdict k limit s = run k stepLine s (line false limit)
+use Rattle.text.specs.LineVerdict.{Line, line, least, pass, stepLine, lineVerdict}
 
 -- ── the first byte of a line ──
 abbrev pub LineEnd : ℕ → List ℕ → ℕ → Type 0

@@ -11,9 +11,11 @@ use lib.Seq.{append-snoc}
 use borrow.Author.Tests.{eqb-true, ne-eqb}
 use Rattle.exact.specs.Claim.{more, refused, AllBytes}
 use Rattle.exact.specs.Field.{shift}
-use Rattle.exact.specs.Machine.{shift-shift, Move, go, dead, moved, run, from-start}
+use Rattle.exact.specs.MachineLaws.{shift-shift, from-start}
+use Rattle.exact.specs.Machine.{Move, go, dead, moved, run}
 use Rattle.text.specs.Line.{NoEnd}
-use Rattle.text.specs.LineLeaf.{Line, line, least, pass, stepLine, lineVerdict, passes-by, pass-go}
+use Rattle.text.specs.LineVerdict.{Line, line, least, pass, stepLine, lineVerdict}
+use Rattle.text.specs.LineLeaf.{passes-by, pass-go}
 
 -- ── the machine behind bytes without an end ──
 -- the CR that a state has behind it, and the bytes that may still come

@@ -12,10 +12,10 @@ ghost use Rattle.text.specs.Decimal.{Digit, Decimal};
 ghost use Rattle.text.specs.Ip4.{Address};
 ghost use Rattle.text.specs.Line.{FirstEnd};
 ghost use Rattle.text.specs.Octets.{toldOctets, Unused};
-ghost use Rattle.text.specs.DecimalLeaf.{digit, decimalVerdict};
+ghost use Rattle.text.specs.DecimalVerdict.{digit, decimalVerdict};
 ghost use Rattle.text.specs.Grows.{moveOf};
-ghost use Rattle.text.specs.Ip4Leaf.{ip4Verdict};
-ghost use Rattle.text.specs.LineLeaf.{lineVerdict};
+ghost use Rattle.text.specs.Ip4Verdict.{ip4Verdict};
+ghost use Rattle.text.specs.LineVerdict.{lineVerdict};
 
 // What a byte makes of a number.
 enum Grown {

@@ -8,9 +8,10 @@ use borrow.Author.Tests.{lt-ltb, leb-true, leb-false, le-leb, lt-leb}
 use lib.Dec.{leb}
 use lib.ListN.{length, getD}
 use Rattle.exact.specs.Claim.{Verdict, accepted, more, refused}
-use Rattle.exact.specs.Machine.{from, from-start, from-end, from-go, from-done, from-dead}
+use Rattle.exact.specs.MachineLaws.{from-start, from-end, from-go, from-done, from-dead}
+use Rattle.exact.specs.Machine.{from}
 use Rattle.exact.specs.Pick.{pick}
-use Rattle.tlv.specs.Region.{Due, typeByte, highByte, lowByte, valueByte, enter, good, stepByte, step, judge}
+use Rattle.tlv.specs.RegionVerdict.{Due, typeByte, highByte, lowByte, valueByte, enter, good, stepByte, step, judge}
 
 -- the verdict where n bytes are left at the place i, and a TLV begins there if there are any
 abbrev pub left : ℕ → List ℕ → ℕ → ℕ → Verdict ℕ

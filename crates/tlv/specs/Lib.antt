@@ -2,6 +2,7 @@ pub mod Tlv
 pub mod Laws
 pub mod Room
 pub mod Rules
+pub mod RegionVerdict
 pub mod Region
 pub mod Whole
 pub mod Test

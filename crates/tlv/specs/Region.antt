@@ -1,4 +1,4 @@
--- For proofs. The leaf of n bytes that TLVs fill: a machine whose states say which byte is due, and what is left of the n bytes.
+-- For proofs. The leaf of n bytes that TLVs fill: its verdicts are exact.
 use mathlib.Core.Path.{_≡_, refl}
 use mathlib.Core.Bool.{Bool, true, false}
 use mathlib.Core.List.{List, [], _∷_}
@@ -8,9 +8,9 @@ use native.Mathlib.Omega.{arith}
 use borrow.Author.Tests.{ltb-true, ltb-false, leb-true, leb-false, eqb-true, eqb-false, le-leb}
 use lib.Dec.{ltb, leb, eqb}
 use lib.ListN.{length}
-use Rattle.exact.specs.Claim.{Verdict, accepted}
 use Rattle.exact.specs.Field.{Opens, Exact}
-use Rattle.exact.specs.Machine.{leaf, Move, go, done, dead, Sound, run, machine-exact}
+use Rattle.exact.specs.MachineLaws.{machine-exact, Sound}
+use Rattle.exact.specs.Machine.{leaf, go, run}
 use Rattle.exact.specs.Parser.{Parser}
 use Rattle.exact.specs.Pick.{pick, pick-by}
 use Rattle.exact.specs.Valueless.{Valueless}
@@ -18,32 +18,7 @@ use Rattle.tlv.specs.Tlv.{Filled}
 use Rattle.tlv.specs.Laws.{area-bytes}
 use Rattle.tlv.specs.Room.{Fillable, Good, Behind, head-open, head-shut, retype, high-byte, good-leaves, behind-fill}
 use Rattle.tlv.specs.Rules.{fill-rule, low-rule, high-rule}
-
--- The byte that is due. typeByte n: n bytes are left with it. highByte room, lowByte h room: room bytes are left behind the two length bytes.
--- valueByte v n: v value bytes follow it, and then n bytes.
-pub data Due : Type 0 where
-  typeByte : ℕ → Due
-  highByte : ℕ → Due
-  lowByte : ℕ → ℕ → Due
-  valueByte : ℕ → ℕ → Due
-
--- before v value bytes and then n bytes
-abbrev pub enter : ℕ → ℕ → Move Due ℕ
-enter zero zero = done 0
-enter zero (suc n) = go (typeByte (suc n))
-enter (suc v) n = go (valueByte v n)
-
-abbrev pub good : ℕ → ℕ → Bool
-good size room = pick (eqb size room) true (leb (size + 3) room)
-
-abbrev pub stepByte : Due → ℕ → Move Due ℕ
-stepByte (typeByte n) c = pick (leb 3 n) (go (highByte (n - 3))) dead
-stepByte (highByte room) c = pick (leb (256 * c) room) (go (lowByte c room)) dead
-stepByte (lowByte h room) c = pick (good (256 * h + c) room) (enter (256 * h + c) (room - (256 * h + c))) dead
-stepByte (valueByte v n) c = enter v n
-
-abbrev pub step : Due → ℕ → Move Due ℕ
-step q c = pick (ltb c 256) (stepByte q c) dead
+use Rattle.tlv.specs.RegionVerdict.{Due, typeByte, highByte, lowByte, valueByte, enter, good, stepByte, step, judge}
 
 -- what may follow in a state
 abbrev Follows : Due → List ℕ → Type 0
@@ -165,11 +140,6 @@ region k n ok =
       opens = region-opens k n (inr ok);
       bytes = λ f a l. area-bytes f (l .0 .1);
     }
-
--- the same where n may be 0
-abbrev pub judge : ℕ → ℕ → List ℕ → Verdict ℕ
-judge k zero s = accepted 0 0
-judge k (suc n) s = run k step s (typeByte (suc n))
 
 pub judge-exact : (k n : ℕ) → Fillable n → (s : List ℕ) → Exact (leaf k (Region n)) (judge k n s) s
 judge-exact k zero ok s =

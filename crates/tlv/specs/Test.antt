@@ -8,7 +8,7 @@ use native.Mathlib.Omega.{arith}
 use lib.ListN.{length}
 use Rattle.exact.specs.Claim.{Verdict, accepted, more, refused}
 use Rattle.tlv.specs.Tlv.{WellFormed}
-use Rattle.tlv.specs.Region.{judge}
+use Rattle.tlv.specs.RegionVerdict.{judge}
 use Rattle.tlv.specs.Whole.{Accepted, judged}
 
 accepts : Verdict ℕ → Bool

@@ -14,7 +14,8 @@ use Rattle.exact.specs.Machine.{leaf, Move, moved, run}
 use Rattle.exact.specs.Pick.{pick-by}
 use Rattle.tlv.specs.Tlv.{WellFormed}
 use Rattle.tlv.specs.Room.{filled-fillable}
-use Rattle.tlv.specs.Region.{Due, typeByte, step, no-bytes, Region, judge, judge-exact}
+use Rattle.tlv.specs.RegionVerdict.{Due, typeByte, step, judge}
+use Rattle.tlv.specs.Region.{no-bytes, Region, judge-exact}
 
 -- the verdict accepts, whatever the value and the length
 abbrev pub Accepted : Verdict ℕ → Type 0

@@ -8,7 +8,7 @@ ghost use Rattle.exact.specs.Claim.{Claim};
 ghost use Rattle.exact.specs.Valueless.{Valueless};
 ghost use Rattle.exact.specs.Scans.{told};
 ghost use Rattle.tlv.specs.Tlv.{WellFormed, Filled};
-ghost use Rattle.tlv.specs.Region.{good, judge};
+ghost use Rattle.tlv.specs.RegionVerdict.{good, judge};
 ghost use Rattle.tlv.specs.Put.{tlvPlaced};
 ghost use Rattle.tlv.specs.Count.{Counts};
 use exact::Scan;

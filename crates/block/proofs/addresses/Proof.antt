@@ -9,7 +9,7 @@ use Rattle.exact.specs.Claim.{AllBytes, more, refused}
 use Rattle.exact.specs.Parser.{reach}
 use Rattle.exact.specs.Scans.{told}
 use Rattle.exact.specs.declared.Scan.{Scan}
-use Rattle.tlv.specs.Region.{judge}
+use Rattle.tlv.specs.RegionVerdict.{judge}
 use Rattle.record.specs.declared.Kind.{Kind}
 use Rattle.record.specs.Kinds.{blockLength}
 use Rattle.fields.specs.BlockFields.{addresses, block-small}

@@ -9,9 +9,11 @@ use lib.Seq.{drop-cons}
 use borrow.Author.Tests.{eq-eqb, ne-eqb}
 use borrow.Author.Needs.{needs}
 use Rattle.exact.specs.Claim.{Verdict, accepted, more, refused, Claim}
-use Rattle.exact.specs.Machine.{Move, go, done, dead, from, from-start, from-end, from-go, from-done, from-dead}
+use Rattle.exact.specs.MachineLaws.{from-start, from-end, from-go, from-done, from-dead}
+use Rattle.exact.specs.Machine.{Move, go, done, dead, from}
 use Rattle.exact.specs.Parser.{bytes-of}
-use Rattle.exact.specs.Literal.{Common, Literal, literal, stepLiteral, literal-exact}
+use Rattle.exact.specs.LiteralLaws.{literal-exact}
+use Rattle.exact.specs.Literal.{Common, Literal, literal, stepLiteral}
 use Rattle.exact.specs.Theorem.{leaf-claims}
 use Rattle.exact.proofs.literal.Statement.{statement}
 use Rattle.exact.proofs.literal.Tie as tie

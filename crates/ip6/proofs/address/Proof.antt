@@ -5,7 +5,8 @@ use Prim.Native.Nat.{ℕ, zero, suc}
 use borrow.Author.Needs.{needs}
 use Rattle.exact.specs.Claim.{Verdict, Claim}
 use Rattle.exact.specs.Ended.{Ended}
-use Rattle.exact.specs.Machine.{run, from-start}
+use Rattle.exact.specs.MachineLaws.{from-start}
+use Rattle.exact.specs.Machine.{run}
 use Rattle.exact.specs.Theorem.{leaf-claims}
 use Rattle.exact.specs.Scans.{heard}
 use Rattle.exact.specs.declared.Scan.{Scan}

@@ -15,7 +15,7 @@ use Rattle.record.specs.Kinds.{addressLength}
 use Rattle.record.specs.Records.{recordOf}
 use Rattle.header.specs.Header.{Header}
 use Rattle.fields.specs.LineFields.{lined, lineFeed, destinationPort}
-use Rattle.line.specs.Families.{tcpKind, width}
+use Rattle.line_address.specs.Families.{tcpKind, width}
 use Rattle.line.proofs.AddressLaws.{own-caller}
 use Rattle.answer.specs.StageLaws.{sees-as, said, as-more, as-refused, as-accepted}
 use borrow.Author.Needs.{needs}

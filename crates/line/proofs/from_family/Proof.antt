@@ -2,7 +2,7 @@
 use mathlib.Core.Path.{sym, _∙_}
 use borrow.Author.Tests.{not-true, not-false}
 use Rattle.answer.specs.StageLaws.{sees-as}
-use Rattle.line.specs.Choices.{choice-none, family-known, family-other}
+use Rattle.line.proofs.Choices.{choice-none, family-known, family-other}
 use borrow.Author.Needs.{needs}
 use Rattle.line.proofs.from_family.Statement.{statement}
 use Rattle.line.proofs.from_family.Tie as tie

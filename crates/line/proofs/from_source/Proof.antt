@@ -10,7 +10,7 @@ use Rattle.exact.specs.Parser.{Parser}
 use Rattle.exact.specs.declared.Scan.{Scan}
 use Rattle.header.specs.Header.{Header}
 use Rattle.fields.specs.LineFields.{fromDestination}
-use Rattle.line.specs.Families.{tcpKind, width, field, toldBytes}
+use Rattle.line_address.specs.Families.{tcpKind, width, field, toldBytes}
 use Rattle.line.proofs.AddressLaws.{said-found, found-padded}
 use Rattle.answer.specs.StageLaws.{as-more, as-refused, as-accepted}
 use borrow.Author.Needs.{needs}

@@ -5,7 +5,7 @@ use lib.ListN.{drop}
 use Rattle.exact.specs.Field.{shift}
 use Rattle.fields.specs.LineFields.{lined, lineFeed}
 use Rattle.answer.specs.StageLaws.{sees-as}
-use Rattle.line.specs.Choices.{choice-none, end-cr, end-space, end-other}
+use Rattle.line.proofs.Choices.{choice-none, end-cr, end-space, end-other}
 use Rattle.answer.specs.declared.Caller.{Caller}
 use Rattle.answer.specs.Sight.{callerRecord, callerOf}
 use borrow.Author.Needs.{needs}

@@ -1,6 +1,6 @@
 -- The byte behind "PROXY " tells the word.
 use Rattle.answer.specs.StageLaws.{sees-as}
-use Rattle.line.specs.Choices.{choice-none, word-unknown, word-tcp}
+use Rattle.line.proofs.Choices.{choice-none, word-unknown, word-tcp}
 use borrow.Author.Needs.{needs}
 use Rattle.line.proofs.from_word.Statement.{statement}
 use Rattle.line.proofs.from_word.Tie as tie

@@ -8,7 +8,7 @@ use Rattle.exact.specs.Scans.{told}
 use Rattle.exact.specs.declared.Scan.{Scan}
 use Rattle.fields.specs.LineFields.{proxyWord}
 use Rattle.answer.specs.StageLaws.{as-first}
-use Rattle.line.specs.Choices.{words}
+use Rattle.line.specs.Stages.{words}
 use borrow.Author.Needs.{needs}
 use Rattle.line.proofs.line.Statement.{statement}
 use Rattle.line.proofs.line.Tie as tie

@@ -1,6 +1,6 @@
 -- Each family by the flag that chose it.
 use mathlib.Core.Path.{sym, ap}
-use Rattle.line.specs.Families.{tcpKind}
+use Rattle.line_address.specs.Families.{tcpKind}
 use Rattle.line.proofs.tcp_kind.Statement.{statement}
 use Rattle.line.proofs.tcp_kind.Tie as tie
 

@@ -7,10 +7,12 @@ use borrow.Author.Needs.{needs}
 use lib.ListN.{length, getD}
 use Rattle.exact.specs.Claim.{Verdict, refused, accepted, more, Claim}
 use Rattle.exact.specs.Ended.{Ended}
-use Rattle.exact.specs.Machine.{Move, run, go, done, dead, from, from-start, from-end, from-go, from-done, from-dead}
+use Rattle.exact.specs.MachineLaws.{from-start, from-end, from-go, from-done, from-dead}
+use Rattle.exact.specs.Machine.{Move, run, go, done, dead, from}
 use Rattle.exact.specs.Theorem.{leaf-claims}
 use Rattle.text.specs.Decimal.{Digit, Decimal}
-use Rattle.text.specs.DecimalLeaf.{At, decimal, decimalVerdict, stepDecimal, start, behind, behind-end, behind-zero, behind-digit}
+use Rattle.text.specs.DecimalVerdict.{At, decimalVerdict, stepDecimal, start, behind}
+use Rattle.text.specs.DecimalLeaf.{decimal, behind-end, behind-zero, behind-digit}
 use Rattle.text.specs.declared.Grown.{Grown}
 use Rattle.text.specs.declared.Grown.the-variants.{Number, Dead}
 use Rattle.text.specs.Grows.{moveOf}

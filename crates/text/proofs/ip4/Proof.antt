@@ -21,8 +21,10 @@ use Rattle.text.specs.Octets.{toldOctets, Unused}
 use Rattle.text.specs.Decimal.{Digit}
 use Rattle.text.specs.Ip4.{Address}
 use Rattle.text.specs.Verdicts.{Within}
-use Rattle.text.specs.DecimalLeaf.{decimalVerdict, decimal-within}
-use Rattle.text.specs.Ip4Leaf.{endOf, ip4, ip4Verdict, octetsFrom, octets-start, octets-end, octet-more, octet-refused, octet-accepted}
+use Rattle.text.specs.DecimalVerdict.{decimalVerdict}
+use Rattle.text.specs.DecimalLeaf.{decimal-within}
+use Rattle.text.specs.Ip4Verdict.{endOf, ip4Verdict}
+use Rattle.text.specs.Ip4Leaf.{ip4, octetsFrom, octets-start, octets-end, octet-more, octet-refused, octet-accepted}
 use Rattle.text.proofs.ip4.Statement.{statement}
 use Rattle.text.proofs.ip4.Tie as tie
 

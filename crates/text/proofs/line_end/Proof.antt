@@ -11,9 +11,11 @@ use borrow.Author.Tests.{eq-eqb, ne-eqb}
 use Rattle.exact.specs.Claim.{Verdict, refused, Claim}
 use Rattle.exact.specs.Valueless.{Valueless}
 use Rattle.exact.specs.Theorem.{leaf-claims}
-use Rattle.exact.specs.Machine.{from, from-start, from-end, from-go, from-done, from-dead}
+use Rattle.exact.specs.MachineLaws.{from-start, from-end, from-go, from-done, from-dead}
+use Rattle.exact.specs.Machine.{from}
 use Rattle.text.specs.Line.{FirstEnd}
-use Rattle.text.specs.LineLeaf.{line, least, pass, stepLine, lineVerdict, lineEnd, lf-ends, passes-by, pass-go, pass-dead}
+use Rattle.text.specs.LineVerdict.{line, least, pass, stepLine, lineVerdict}
+use Rattle.text.specs.LineLeaf.{lineEnd, lf-ends, passes-by, pass-go, pass-dead}
 use Rattle.text.proofs.line_end.Statement.{statement}
 use Rattle.text.proofs.line_end.Tie as tie
 

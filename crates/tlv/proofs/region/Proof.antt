@@ -12,7 +12,8 @@ use Rattle.exact.specs.Theorem.{leaf-claims}
 use Rattle.tlv.specs.Tlv.{Filled}
 use Rattle.tlv.specs.Laws.{area-bytes}
 use Rattle.tlv.specs.Room.{good-leaves}
-use Rattle.tlv.specs.Region.{judge, judge-exact, good, good-true}
+use Rattle.tlv.specs.RegionVerdict.{judge, good}
+use Rattle.tlv.specs.Region.{judge-exact, good-true}
 use Rattle.tlv.proofs.Turn.{left, left-start, left-done, left-more, left-short, type-dead, high-more, high-dead, low-more, low-dead, low-go}
 use Rattle.tlv.proofs.region.Statement.{statement}
 use Rattle.tlv.proofs.region.Tie as tie

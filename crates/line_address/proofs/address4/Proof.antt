@@ -1,8 +1,8 @@
 -- The octets stand at the front of what is stored, with zeros behind them.
-use Rattle.line.proofs.AddressLaws.{told4, unused4}
+use Rattle.line_address.proofs.AddressLaws.{told4, unused4}
 use borrow.Author.Needs.{needs}
-use Rattle.line.proofs.address.address4.Statement.{statement}
-use Rattle.line.proofs.address.address4.Tie as tie
+use Rattle.line_address.proofs.address4.Statement.{statement}
+use Rattle.line_address.proofs.address4.Tie as tie
 
 returns : tie.Need-returns
 returns c =

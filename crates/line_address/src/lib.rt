@@ -4,7 +4,7 @@ ghost use mathlib.Core.Path.{_≡_};
 ghost use Prim.Native.Nat.{_/_, _%_};
 ghost use Rattle.header.specs.Line.{groupBytes};
 ghost use Rattle.fields.specs.Exactness.{address4 as fieldOf4, address6 as fieldOf6};
-ghost use Rattle.line.specs.Families.{toldBytes, Unused, width, field};
+ghost use Rattle.line_address.specs.Families.{toldBytes, Unused, width, field};
 
 // The high byte of a group.
 fn high(group: u16) -> u8
@@ -74,7 +74,7 @@ fn address6(s: &[u8], bytes: &mut [u8; 16]) -> Scan
 
 // The address of a TCP6 line if six, else of a TCP4 line, at the front of the bytes; what it leaves of them, or all where no address is accepted,
 // is zero.
-pub(crate) fn address(s: &[u8], six: bool, bytes: &mut [u8; 16]) -> Scan
+pub fn address(s: &[u8], six: bool, bytes: &mut [u8; 16]) -> Scan
     ensures verdict { λ r. ⌜ toldBytes (width six) r (now (bytes .exit)) ≡ field six .verdict (now (s .entry)) ⌝ }
     ensures unused { λ r. ⌜ Unused (width six) r (now (bytes .exit)) ⌝ }
 {

@@ -1,6 +1,6 @@
 use borrow.Author.Needs.{needs}
-use Rattle.line.proofs.address.address.Statement.{statement}
-use Rattle.line.proofs.address.address.Tie as tie
+use Rattle.line_address.proofs.address.Statement.{statement}
+use Rattle.line_address.proofs.address.Tie as tie
 
 returns : tie.Need-returns
 returns c = rw (c .before .before .if1 .taken) (c .address6 .ensures)

@@ -1,4 +1,4 @@
--- For proofs. What the families of a TCP line differ in: six is true for TCP6.
+-- What the families of a TCP line differ in: six is true for TCP6.
 use mathlib.Core.Path.{_≡_}
 use mathlib.Core.Bool.{Bool, true, false}
 use mathlib.Core.List.{List}

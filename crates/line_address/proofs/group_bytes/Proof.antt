@@ -1,10 +1,10 @@
 use mathlib.Core.Path.{_≡_}
 use lib.ListN.{length}
-use Rattle.line.proofs.AddressLaws.{eight-bytes}
+use Rattle.line_address.proofs.AddressLaws.{eight-bytes}
 use native.Mathlib.Omega.{arith}
 use borrow.Author.Needs.{needs}
-use Rattle.line.proofs.address.group_bytes.Statement.{statement}
-use Rattle.line.proofs.address.group_bytes.Tie as tie
+use Rattle.line_address.proofs.group_bytes.Statement.{statement}
+use Rattle.line_address.proofs.group_bytes.Tie as tie
 
 returns : tie.Need-returns
 returns c =

@@ -1,4 +1,4 @@
--- For proofs. The stages that go by one byte, and the fields that they stand at.
+-- The stages that go by one byte.
 use mathlib.Core.Path.{_≡_, refl, sym, ap, _∙_}
 use mathlib.Core.Bool.{Bool, true, false}
 use mathlib.Core.List.{List, [], _∷_}
@@ -11,33 +11,18 @@ use borrow.Author.Tests.{eq-eqb, ne-eqb, eqb-true, eqb-false}
 use lib.Dec.{eqb}
 use Rattle.exact.specs.Claim.{Verdict, accepted, more, refused, AllBytes}
 use Rattle.exact.specs.Field.{shift, after}
-use Rattle.exact.specs.Machine.{shift-shift}
+use Rattle.exact.specs.MachineLaws.{shift-shift}
 use Rattle.exact.specs.Pick.{pick}
-use Rattle.exact.specs.Parser.{Parser, just, _then_, either}
+use Rattle.exact.specs.Parser.{Parser, _then_}
 use Rattle.exact.specs.Choice.{choose}
 use Rattle.exact.specs.Literal.{literal}
 use Rattle.record.specs.declared.Kind.the-variants.{Unspecified}
 use Rattle.record.specs.Records.{bare}
 use Rattle.header.specs.Header.{Header}
-use Rattle.fields.specs.LineFields.{word, lined, lineFeed, fromSource, spaceField, restField, is4, isU, tcp4, tcp6, starts4, starts6, tcps, unknown, unknown-starts, tcps-starts, shortEnd, longEnd, isCr, unknownEnd}
+use Rattle.fields.specs.LineFields.{word, lined, lineFeed, fromSource, is4, isU, tcp4, tcp6, tcps, unknown, shortEnd, longEnd, isCr, unknownEnd}
 use Rattle.fields.specs.Exactness.{address4, address6}
-use Rattle.line.specs.Families.{tcpKind, field}
-
-abbrev pub fromSpace : Bool → Parser Header
-fromSpace six = spaceField then λ u. fromSource (tcpKind six) (field six)
-
--- the byte behind "TCP" is 4 or 6
-abbrev pub isFamily : ℕ → Bool
-isFamily c = pick (eqb c 52) true (eqb c 54)
-
-abbrev pub families : Parser Header
-families = either is4 (tcp4 address4 address6) (tcp6 address4 address6) (starts4 address4 address6) (starts6 address4 address6)
-
-abbrev pub fromRest : Parser Header
-fromRest = restField then λ u. just (lined (bare Unspecified))
-
-abbrev pub words : Parser Header
-words = either isU unknown (tcps address4 address6) (unknown-starts address4 address6) (tcps-starts address4 address6)
+use Rattle.line_address.specs.Families.{tcpKind, field}
+use Rattle.line.specs.Stages.{fromSpace, isFamily, families, fromRest, words}
 
 -- a field whose first byte has come, and the rest
 after-cons : {A B : Type 0} (v : Verdict A) (next : A → List ℕ → Verdict B) (c : ℕ) (t : List ℕ) → after (shift 1 v) next (c ∷ t) ≡ shift 1 (after v next t)

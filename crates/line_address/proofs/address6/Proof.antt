@@ -1,8 +1,8 @@
 -- The bytes of the groups fill what is stored.
-use Rattle.line.proofs.AddressLaws.{told6, unused6}
+use Rattle.line_address.proofs.AddressLaws.{told6, unused6}
 use borrow.Author.Needs.{needs}
-use Rattle.line.proofs.address.address6.Statement.{statement}
-use Rattle.line.proofs.address.address6.Tie as tie
+use Rattle.line_address.proofs.address6.Statement.{statement}
+use Rattle.line_address.proofs.address6.Tie as tie
 
 returns : tie.Need-returns
 returns c =

@@ -1,0 +1,27 @@
+-- The verdict on an UNKNOWN line's end, byte by byte.
+use mathlib.Core.Bool.{Bool, true, false}
+use mathlib.Core.List.{List}
+use Prim.Native.Nat.{ℕ, _-_}
+use lib.Dec.{eqb, leb, ltb}
+use Rattle.exact.specs.Claim.{Verdict}
+use Rattle.exact.specs.Machine.{Move, go, done, dead, run}
+use Rattle.exact.specs.Pick.{pick}
+
+-- whether the last byte was CR, and how many bytes may still come
+pub data Line : Type 0 where
+  line : Bool → ℕ → Line
+
+-- the fewest bytes of a line that begins with c and not with its end: CR and LF behind c, or LF where c is CR
+abbrev pub least : Bool → ℕ
+least is-cr = pick is-cr 2 3
+
+-- a byte that does not end the line
+abbrev pub pass : Bool → ℕ → ℕ → Move Line ℕ
+pass is-cr left c = pick (leb (least is-cr) left) (pick (ltb c 256) (go (line is-cr (left - 1))) dead) dead
+
+abbrev pub stepLine : Line → ℕ → Move Line ℕ
+stepLine (line true left) c = pick (eqb c 10) (done 0) (pass (eqb c 13) left c)
+stepLine (line false left) c = pass (eqb c 13) left c
+
+abbrev pub lineVerdict : (k limit : ℕ) → List ℕ → Verdict ℕ
+lineVerdict k limit s = run k stepLine s (line false limit)

@@ -1,0 +1,39 @@
+-- The verdict on n bytes that TLVs fill, byte by byte: which byte is due, and what is left of the n bytes.
+use mathlib.Core.Bool.{Bool, true}
+use mathlib.Core.List.{List}
+use Prim.Native.Nat.{ℕ, zero, suc, _+_, _*_, _-_}
+use lib.Dec.{ltb, leb, eqb}
+use Rattle.exact.specs.Claim.{Verdict, accepted}
+use Rattle.exact.specs.Machine.{Move, go, done, dead, run}
+use Rattle.exact.specs.Pick.{pick}
+
+-- The byte that is due. typeByte n: n bytes are left with it. highByte room, lowByte h room: room bytes are left behind the two length bytes.
+-- valueByte v n: v value bytes follow it, and then n bytes.
+pub data Due : Type 0 where
+  typeByte : ℕ → Due
+  highByte : ℕ → Due
+  lowByte : ℕ → ℕ → Due
+  valueByte : ℕ → ℕ → Due
+
+-- before v value bytes and then n bytes
+abbrev pub enter : ℕ → ℕ → Move Due ℕ
+enter zero zero = done 0
+enter zero (suc n) = go (typeByte (suc n))
+enter (suc v) n = go (valueByte v n)
+
+abbrev pub good : ℕ → ℕ → Bool
+good size room = pick (eqb size room) true (leb (size + 3) room)
+
+abbrev pub stepByte : Due → ℕ → Move Due ℕ
+stepByte (typeByte n) c = pick (leb 3 n) (go (highByte (n - 3))) dead
+stepByte (highByte room) c = pick (leb (256 * c) room) (go (lowByte c room)) dead
+stepByte (lowByte h room) c = pick (good (256 * h + c) room) (enter (256 * h + c) (room - (256 * h + c))) dead
+stepByte (valueByte v n) c = enter v n
+
+abbrev pub step : Due → ℕ → Move Due ℕ
+step q c = pick (ltb c 256) (stepByte q c) dead
+
+-- the same where n may be 0
+abbrev pub judge : ℕ → ℕ → List ℕ → Verdict ℕ
+judge k zero s = accepted 0 0
+judge k (suc n) s = run k step s (typeByte (suc n))
