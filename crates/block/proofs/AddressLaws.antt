@@ -14,7 +14,7 @@ use Rattle.record.specs.declared.Kind.{Kind}
 use Rattle.tlv.specs.RegionVerdict.{judge}
 use Rattle.record.specs.Kinds.{addressLength, portLength, blockLength}
 use Rattle.record.specs.Records.{recordOf}
-use Rattle.record.specs.AddressBlock.{blockRecord}
+use Rattle.address_block.specs.AddressBlock.{blockRecord}
 use Rattle.header.specs.Header.{Header}
 use Rattle.fields.specs.BlockFields.{blocked, address, port, area, addresses, fits}
 use Rattle.answer.specs.declared.Seen.{Seen}

@@ -8,7 +8,7 @@ use Rattle.record.specs.declared.Kind.{Kind}
 use Rattle.record.specs.declared.Kind.the-variants.{Local, Unspecified, Ip4, Ip6, Unix}
 use Rattle.record.specs.Kinds.{blockLength}
 use Rattle.record.specs.Records.{bare}
-use Rattle.record.specs.AddressBlock.{blockRecord}
+use Rattle.address_block.specs.AddressBlock.{blockRecord}
 use Rattle.fields.specs.BlockFields.{skipped, addressed, familyRest}
 use Rattle.answer.specs.Answers.{blockArea}
 

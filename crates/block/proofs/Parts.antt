@@ -11,7 +11,7 @@ use Rattle.record.specs.declared.Kind.the-variants.{Local, Unspecified, Ip4, Ip
 use Rattle.record.specs.declared.Record.{Record}
 use Rattle.record.specs.Kinds.{addressLength, portLength}
 use Rattle.record.specs.Records.{recordOf}
-use Rattle.record.specs.AddressBlock.{portAt as portIn, blockRecord}
+use Rattle.address_block.specs.AddressBlock.{portAt as portIn, blockRecord}
 
 -- the port that t begins with, of n bytes; "UNIX has no ports"
 abbrev pub portAt : ℕ → List ℕ → ℕ

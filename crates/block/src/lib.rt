@@ -24,7 +24,7 @@ ghost use Rattle.exact.specs.Field.{shift};
 ghost use Rattle.record.specs.Kinds.{blockLength};
 ghost use Rattle.record.specs.Records.{bare};
 ghost use Rattle.fields.specs.BlockFields.{blocked, block as blockField, fromCommand, fromFamily, familyRest, skipped as skippedField, addressed as addressedField, addresses as addressesField, fits as fitsIn};
-ghost use Rattle.record.specs.AddressBlock.{blockRecord};
+ghost use Rattle.address_block.specs.AddressBlock.{blockRecord};
 ghost use Rattle.answer.specs.Answers.{areaOf};
 ghost use Rattle.answer.specs.Sight.{Sees};
 

@@ -7,8 +7,8 @@ use lib.ListN.{length, length-append}
 use Rattle.record.specs.declared.Record.{Record}
 use Rattle.record.specs.Kinds.{blockLength}
 use Rattle.record.specs.Records.{Sized}
-use Rattle.record.specs.AddressBlock.{addressBlock}
-use Rattle.record.specs.AddressBlockLaws.{block-size}
+use Rattle.address_block.specs.AddressBlock.{addressBlock}
+use Rattle.address_block.specs.AddressBlockLaws.{block-size}
 use Rattle.block_writer.specs.Written.{blockOf, writtenBlock}
 
 module _ (r : Record) (area : List ℕ) (sized : Sized r) where

@@ -14,8 +14,8 @@ use Rattle.record.specs.declared.Kind.the-variants.{Local, Unspecified, Ip4, Ip
 use Rattle.record.specs.declared.Record.{Record}
 use Rattle.record.specs.Kinds.{family, byteOf, addressLength, portLength}
 use Rattle.record.specs.Records.{recordWith, recordOf, bare}
-use Rattle.record.specs.AddressBlock.{addressBlock}
-use Rattle.record.specs.AddressBlockLaws.{address-size, made-again}
+use Rattle.address_block.specs.AddressBlock.{addressBlock}
+use Rattle.address_block.specs.AddressBlockLaws.{address-size, made-again}
 use Rattle.exact.specs.Parser.{bytes-take}
 use Rattle.header.specs.Block.{signature, PROXY, HasAddresses, portBytes, Addresses, AddressBlock, Block}
 use Rattle.block_writer.specs.Written.{commandOf, blockOf, writtenBlock, CarriedByBlock}

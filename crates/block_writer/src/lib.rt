@@ -1,4 +1,5 @@
 // The version 2 writer (document 01, "The binary block"). No public function has a `requires`.
+use address_block::put_addresses;
 use answer::Fault;
 use answer::Written;
 use answer::is_written;
@@ -6,10 +7,9 @@ use lent::put;
 use record::Kind;
 use record::Record;
 use record::block_length;
-use record::clean;
 use record::kind_byte;
-use record::put_addresses;
 use tlv::well_formed;
+use unused::clean;
 ghost use mathlib.Core.Path.{_≡_};
 ghost use lib.ListN.{length};
 ghost use Rattle.lent.specs.Placed.{placed};

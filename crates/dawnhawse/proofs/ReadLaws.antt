@@ -12,7 +12,7 @@ use Rattle.exact.specs.Pick.{pick}
 use Rattle.record.specs.declared.Kind.{Kind}
 use Rattle.record.specs.declared.Record.{Record}
 use Rattle.record.specs.Kinds.{blockLength}
-use Rattle.record.specs.AddressBlock.{blockRecord}
+use Rattle.address_block.specs.AddressBlock.{blockRecord}
 use Rattle.header.specs.Header.{Header}
 use Rattle.answer.specs.declared.Verdict.{Verdict}
 use Rattle.answer.specs.declared.Verdict.the-variants.{Accepted, More, Refused}

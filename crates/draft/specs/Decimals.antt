@@ -3,7 +3,7 @@ use mathlib.Core.Path.{_≡_, refl}
 use Prim.Native.Nat.{ℕ, _+_, _-_, _≤_, _<_}
 use native.Mathlib.Omega.{arith}
 use borrow.Author.Tests.{lt-ltb}
-use Rattle.text.specs.Decimal.{Digit, Digits, valueOn, Decimal}
+use Rattle.decimal.specs.Decimal.{Digit, Digits, valueOn, Decimal}
 use Rattle.draft.specs.Numeral.{digit, decimalText}
 use Rattle.draft.specs.NumeralLaws.{numeral-all, numeral-value, numeral-plain}
 

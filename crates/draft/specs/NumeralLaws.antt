@@ -10,7 +10,7 @@ use lib.ListN.{length, length-append}
 use lib.Seq.{append-snoc}
 use borrow.Author.Tests.{lt-ltb, le-ltb, ltb-true, ltb-false}
 use Rattle.exact.specs.Pick.{pick-by}
-use Rattle.text.specs.Decimal.{Plain}
+use Rattle.decimal.specs.Decimal.{Plain}
 use Rattle.draft.specs.Numeral.{digit, digitsOf, numeral}
 
 module _ (base : ℕ) (two : 2 ≤ base) where

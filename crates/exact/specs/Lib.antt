@@ -19,3 +19,5 @@ pub mod Ended
 pub mod Valueless
 pub mod Scans
 pub mod Numbered
+pub mod Verdicts
+pub mod Endings

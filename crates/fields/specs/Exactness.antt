@@ -14,8 +14,8 @@ use Rattle.exact.specs.Parser.{Parser, Starts, just, _then_, either, recast, st
 use Rattle.exact.specs.LiteralLaws.{starts-text}
 use Rattle.exact.specs.Numbered.{Numbered, numbered-either}
 use Rattle.exact.specs.Theorem.{claim-holds, claim-only, claim-stays, whole-only, bytes-suffice}
-use Rattle.text.specs.Ip4.{Address as Ip4Address}
-use Rattle.text.specs.Ip4Leaf.{ip4}
+use Rattle.ip4.specs.Ip4.{Address as Ip4Address}
+use Rattle.ip4.specs.Ip4Leaf.{ip4}
 use Rattle.ip6.specs.Parser.{ip6, space-ends}
 use Rattle.header.specs.Line.{Ip6Address, groupBytes, Line}
 use Rattle.header.specs.Header.{Header, Whole, number}

@@ -15,10 +15,11 @@ use Rattle.exact.specs.Network.{network}
 use Rattle.exact.specs.Claim.{accepted, more, refused, AllBytes}
 use Rattle.exact.specs.Parser.{bytes-back}
 use Rattle.exact.specs.Byte.{zeros}
-use Rattle.text.specs.Line.{CR, NoEnd}
-use Rattle.text.specs.Ip4.{Address as Ip4Address}
-use Rattle.text.specs.Ip4Verdict.{ip4Verdict}
-use Rattle.text.specs.Laws.{decimal-length, address-length}
+use Rattle.line_end.specs.Line.{CR, NoEnd}
+use Rattle.ip4.specs.Ip4.{Address as Ip4Address}
+use Rattle.ip4.specs.Ip4Verdict.{ip4Verdict}
+use Rattle.decimal.specs.DecimalLaws.{decimal-length}
+use Rattle.ip4.specs.Ip4Laws.{address-length}
 use Rattle.ip6.specs.Address.{hexOf}
 use Rattle.ip6.specs.Bounds.{address-bounds}
 use Rattle.tlv.specs.Room.{filled-fillable}

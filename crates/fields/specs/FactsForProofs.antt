@@ -19,8 +19,8 @@ use Rattle.exact.specs.Machine.{Move, done, dead, moved, run}
 use Rattle.exact.specs.Pick.{pick, pick-by}
 use Rattle.exact.specs.Parser.{bytes-front}
 use Rattle.exact.specs.Byte.{zeros, found, stepByte}
-use Rattle.text.specs.Line.{NoEnd}
-use Rattle.text.specs.LongLine.{long-more, long-refused}
+use Rattle.line_end.specs.Line.{NoEnd}
+use Rattle.line_end.specs.LongLine.{long-more, long-refused}
 use Rattle.tlv.specs.Room.{Fillable, fill}
 use Rattle.record.specs.declared.Kind.{Kind}
 use Rattle.record.specs.declared.Kind.the-variants.{Local, Unspecified, Ip4, Ip6, Unix}

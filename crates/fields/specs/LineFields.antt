@@ -8,8 +8,8 @@ use Rattle.exact.specs.Claim.{AllBytes}
 use Rattle.exact.specs.Ascii.{ascii}
 use Rattle.exact.specs.Parser.{Parser, Starts, just, _then_, either, starts-seq}
 use Rattle.exact.specs.LiteralLaws.{text, starts-text}
-use Rattle.text.specs.DecimalLeaf.{decimal}
-use Rattle.text.specs.LineLeaf.{lineEnd}
+use Rattle.decimal.specs.DecimalLeaf.{decimal}
+use Rattle.line_end.specs.LineLeaf.{lineEnd}
 use Rattle.record.specs.declared.Transport.the-variants.{Stream}
 use Rattle.record.specs.declared.Kind.{Kind}
 use Rattle.record.specs.declared.Kind.the-variants.{Unspecified, Ip4, Ip6}

@@ -9,8 +9,8 @@ use Rattle.exact.specs.Ascii.{ascii}
 use Rattle.exact.specs.Ended.{Ended}
 use Rattle.exact.specs.Parser.{Parser}
 use Rattle.exact.specs.LiteralLaws.{text}
-use Rattle.text.specs.Decimal.{Decimal}
-use Rattle.text.specs.Line.{FirstEnd}
+use Rattle.decimal.specs.Decimal.{Decimal}
+use Rattle.line_end.specs.Line.{FirstEnd}
 use Rattle.record.specs.declared.Transport.the-variants.{Stream}
 use Rattle.record.specs.declared.Kind.{Kind}
 use Rattle.record.specs.declared.Kind.the-variants.{Unspecified, Ip4, Ip6}

@@ -19,9 +19,9 @@ use Rattle.exact.specs.Literal.{Literal}
 use Rattle.exact.specs.Byte.{OneByte, count}
 use Rattle.exact.specs.Number.{any, Number, number16}
 use Rattle.exact.specs.Numbered.{Numbered, numbered-just, numbered-leaf, numbered-text, numbered-then, numbered-either}
-use Rattle.text.specs.Decimal.{Digits, Decimal}
-use Rattle.text.specs.Ip4.{Address as Ip4Address}
-use Rattle.text.specs.LineLeaf.{LineEnd}
+use Rattle.decimal.specs.Decimal.{Digits, Decimal}
+use Rattle.ip4.specs.Ip4.{Address as Ip4Address}
+use Rattle.line_end.specs.LineLeaf.{LineEnd}
 use Rattle.ip6.specs.Address.{hexOf}
 use Rattle.ip6.specs.Bounds.{Spelt, address-bounds}
 use Rattle.ip6.specs.Parser.{space-ends}

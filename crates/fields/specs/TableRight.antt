@@ -2,7 +2,7 @@
 use mathlib.Core.Path.{_≡_, refl, subst}
 use mathlib.Core.List.{List, [], _∷_}
 use Rattle.exact.specs.Claim.{Verdict}
-use Rattle.text.specs.Ip4Verdict.{ip4Verdict}
+use Rattle.ip4.specs.Ip4Verdict.{ip4Verdict}
 use Rattle.header.specs.Header.{Header}
 use Rattle.header.specs.Demand.{Judges}
 use Rattle.header.specs.Table.{Row, table, Right}

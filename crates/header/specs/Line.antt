@@ -6,9 +6,9 @@ use Prim.Native.Nat.{ℕ, _-_}
 use lib.ListN.{length}
 use Rattle.exact.specs.Ascii.{ascii}
 use Rattle.exact.specs.Network.{network}
-use Rattle.text.specs.Decimal.{Decimal}
-use Rattle.text.specs.Ip4.{Address as Ip4Address}
-use Rattle.text.specs.Line.{FirstEnd}
+use Rattle.decimal.specs.Decimal.{Decimal}
+use Rattle.ip4.specs.Ip4.{Address as Ip4Address}
+use Rattle.line_end.specs.Line.{FirstEnd}
 use Rattle.ip6.specs.Address.{Address as Ip6Text}
 use Rattle.record.specs.declared.Transport.the-variants.{Stream}
 use Rattle.record.specs.declared.Kind.{Kind}

@@ -11,8 +11,8 @@ use Rattle.record.specs.declared.Record.{Record}
 use Rattle.record.specs.Kinds.{addressLength}
 use Rattle.record.specs.Records.{held, recordOf}
 use Rattle.record.specs.RecordLaws.{same-record}
-use Rattle.record.specs.AddressBlockLaws.{address-fits}
-use Rattle.record.specs.AddressBlock.{blockRecord}
+use Rattle.address_block.specs.AddressBlockLaws.{address-fits}
+use Rattle.address_block.specs.AddressBlock.{blockRecord}
 use Rattle.lent.specs.Placed.{placed}
 use Rattle.lent.specs.PlacedLaws.{placed-then, placed-front}
 use Rattle.answer.specs.declared.Verdict.{Verdict}

@@ -1,5 +1,7 @@
 // A connection: the stored form's kind code, two addresses of 108 bytes, and two ports, high byte first.
 use crate::CONNECTION;
+use address_block::destination_port_of;
+use address_block::source_port_of;
 use answer::Seen;
 use exact::number;
 use lent::behind;
@@ -10,9 +12,7 @@ use record::Kind;
 use record::Record;
 use record::address_length;
 use record::blank;
-use record::destination_port_of;
 use record::record_with;
-use record::source_port_of;
 use store::code_of;
 use store::kind_of;
 ghost use mathlib.Core.Path.{_≡_};

@@ -61,7 +61,7 @@ fn from_destination_port(
     requires { ⌜ (at ≤ length (now s)) × (from ≡ padded (take (width six) from)) × (to ≡ padded (take (width six) to)) ⌝ }
     ensures { λ r. ⌜ Sees (now (s .entry)) (shift at (fromDestinationPort (tcpKind six) (take (width six) from) (take (width six) to) p .verdict (drop at (now (s .entry))))) r ⌝ }
 {
-    match text::decimal(&s[at..], 65535, b'\r') {
+    match decimal::decimal(&s[at..], 65535, b'\r') {
         Scan::More => more(),
         Scan::Refused(place) => refused(Refusal::Port, at + place),
         Scan::Accepted(q, n) => {
@@ -81,7 +81,7 @@ fn from_source_port(s: &[u8], at: usize, six: bool, from: [u8; 16], to: [u8; 16]
     requires { ⌜ (at ≤ length (now s)) × (from ≡ padded (take (width six) from)) × (to ≡ padded (take (width six) to)) ⌝ }
     ensures { λ r. ⌜ Sees (now (s .entry)) (shift at (fromSourcePort (tcpKind six) (take (width six) from) (take (width six) to) .verdict (drop at (now (s .entry))))) r ⌝ }
 {
-    match text::decimal(&s[at..], 65535, b' ') {
+    match decimal::decimal(&s[at..], 65535, b' ') {
         Scan::More => more(),
         Scan::Refused(place) => refused(Refusal::Port, at + place),
         Scan::Accepted(p, n) => from_destination_port(s, at + n, six, from, to, p as u16),
@@ -161,7 +161,7 @@ fn from_rest(s: &[u8], at: usize) -> Seen
     requires { ⌜ at ≤ length (now s) ⌝ }
     ensures { λ r. ⌜ Sees (now (s .entry)) (shift at (fromRest .verdict (drop at (now (s .entry))))) r ⌝ }
 {
-    match text::line_end(&s[at..], 93) {
+    match line_end::line_end(&s[at..], 93) {
         Scan::More => more(),
         Scan::Refused(place) => refused(Refusal::End, at + place),
         Scan::Accepted(_, n) => Seen {

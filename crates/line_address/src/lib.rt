@@ -49,7 +49,7 @@ fn address4(s: &[u8], bytes: &mut [u8; 16]) -> Scan
     ensures verdict { λ r. ⌜ toldBytes 4 r (now (bytes .exit)) ≡ fieldOf4 .verdict (now (s .entry)) ⌝ }
     ensures unused { λ r. ⌜ Unused 4 r (now (bytes .exit)) ⌝ }
 {
-    let found = text::ip4(s, b' ');
+    let found = ip4::ip4(s, b' ');
     let scan = found.scan;
     let octets = found.octets;
     let mut padded = [0u8; 16];

@@ -17,8 +17,8 @@ use Rattle.record.specs.declared.Kind.{Kind}
 use Rattle.record.specs.declared.Kind.the-variants.{Local, Unspecified, Ip4, Ip6, Unix}
 use Rattle.record.specs.declared.Record.{Record}
 use Rattle.record.specs.Records.{Clean, Sized}
-use Rattle.record.specs.Unused.{cleanTest}
-use Rattle.record.specs.UnusedLaws.{clean-test}
+use Rattle.unused.specs.Unused.{cleanTest}
+use Rattle.unused.specs.UnusedLaws.{clean-test}
 use Rattle.header.specs.Header.{Whole}
 use Rattle.header.specs.Demand.{Judges}
 use Rattle.fields.specs.LineFields.{lined}

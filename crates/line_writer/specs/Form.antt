@@ -11,7 +11,7 @@ use lib.Seq.{length-take-le, append-snoc}
 use borrow.Author.Tests.{ltb-true, ltb-false}
 use Rattle.exact.specs.Ascii.{ascii}
 use Rattle.exact.specs.Pick.{pick-by}
-use Rattle.text.specs.Decimal.{Plain}
+use Rattle.decimal.specs.Decimal.{Plain}
 use Rattle.draft.specs.Numeral.{digit, hexText}
 use Rattle.line_writer.specs.Addresses.{groupsText, groupsOf}
 use Rattle.draft.specs.NumeralLaws.{numeral-all, numeral-plain}

@@ -10,14 +10,14 @@ use lib.Seq.{length-take-le}
 use Rattle.exact.specs.Ascii.{ascii}
 use Rattle.exact.specs.Claim.{AllBytes}
 use Rattle.exact.specs.Parser.{bytes-take}
-use Rattle.text.specs.Ip4.{Address as Ip4Address}
+use Rattle.ip4.specs.Ip4.{Address as Ip4Address}
 use Rattle.record.specs.declared.Transport.the-variants.{Stream, Datagram}
 use Rattle.record.specs.declared.Kind.{Kind}
 use Rattle.record.specs.declared.Kind.the-variants.{Local, Unspecified, Ip4, Ip6, Unix}
 use Rattle.record.specs.declared.Record.{Record}
 use Rattle.record.specs.Kinds.{addressLength}
 use Rattle.record.specs.Records.{recordOf, bare, PortFits, Clean, Sized}
-use Rattle.record.specs.AddressBlockLaws.{address-fits, made-again}
+use Rattle.address_block.specs.AddressBlockLaws.{address-fits, made-again}
 use Rattle.header.specs.Line.{TcpLine, Ip6Address, Line}
 use Rattle.fields.specs.Facts.{longest-tcp4, longest-tcp6}
 use Rattle.draft.specs.Decimals.{decimal-text}

@@ -10,8 +10,8 @@ use borrow.Author.Tests.{ltb-true, ltb-false}
 use Rattle.exact.specs.Claim.{AllBytes}
 use Rattle.exact.specs.Network.{number as numberOf}
 use Rattle.exact.specs.Pick.{pick-by}
-use Rattle.text.specs.Decimal.{Plain}
-use Rattle.text.specs.Ip4.{Address as Ip4Address}
+use Rattle.decimal.specs.Decimal.{Plain}
+use Rattle.ip4.specs.Ip4.{Address as Ip4Address}
 use Rattle.ip6.specs.Address.{hexOf, HexDigits, number, Group, Groups, Address as Ip6Text}
 use Rattle.ip6.specs.Hex.{hex-decimal, hex-lower}
 use Rattle.ip6.specs.Bounds.{AllWords}

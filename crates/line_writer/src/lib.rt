@@ -14,7 +14,7 @@ use lent::put;
 use record::Kind;
 use record::Record;
 use record::Transport;
-use record::clean;
+use unused::clean;
 ghost use mathlib.Core.Path.{_≡_};
 ghost use mathlib.Core.List.{[]};
 ghost use lib.ListN.{length, take};

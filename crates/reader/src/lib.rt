@@ -1,5 +1,7 @@
 // The reader of PROXY protocol headers of both versions: what lent received bytes are, and where their TLV area lies.
 // No public function has a `requires`.
+use address_block::addresses_of;
+use address_block::record_from;
 use answer::Reading;
 use answer::Seen;
 use answer::Verdict;
@@ -10,9 +12,7 @@ use lent::least;
 use line::line;
 use record::Kind;
 use record::Record;
-use record::addresses_of;
 use record::block_length;
-use record::record_from;
 ghost use mathlib.Core.Path.{_≡_};
 ghost use Prim.Native.Nat.{_+_};
 ghost use lib.ListN.{length};

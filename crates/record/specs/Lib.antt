@@ -4,7 +4,3 @@ pub mod Table
 pub mod Records
 pub mod RecordLaws
 pub mod HeldLaws
-pub mod Unused
-pub mod UnusedLaws
-pub mod AddressBlock
-pub mod AddressBlockLaws

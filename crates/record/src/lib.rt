@@ -1,15 +1,5 @@
 // The connection record: a kind, two addresses and two ports (document 01, "The record").
 // No public function has a `requires`.
-mod input;
-mod output;
-mod unused;
-
-pub use input::addresses_of;
-pub use input::destination_port_of;
-pub use input::record_from;
-pub use input::source_port_of;
-pub use output::put_addresses;
-pub use unused::clean;
 ghost use mathlib.Core.Path.{_≡_};
 ghost use Rattle.record.specs.KnownFamily.{toldFamily};
 ghost use Rattle.record.specs.Records.{recordWith, bare};

@@ -11,7 +11,7 @@ use Rattle.record.specs.declared.Kind.the-variants.{Unspecified}
 use Rattle.record.specs.declared.Record.{Record}
 use Rattle.record.specs.Kinds.{blockLength}
 use Rattle.record.specs.Records.{bare}
-use Rattle.record.specs.AddressBlock.{blockRecord}
+use Rattle.address_block.specs.AddressBlock.{blockRecord}
 use Rattle.store.specs.declared.Flaw.{Flaw}
 use Rattle.store.specs.declared.Flaw.the-variants.{Mark, Version, Code, Length}
 use Rattle.store.specs.declared.Outcome.{Outcome}

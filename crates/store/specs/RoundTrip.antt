@@ -17,10 +17,10 @@ use Rattle.record.specs.declared.Kind.the-variants.{Local, Unspecified, Ip4, Ip
 use Rattle.record.specs.declared.Record.{Record}
 use Rattle.record.specs.Kinds.{blockLength}
 use Rattle.record.specs.Records.{Clean, Sized}
-use Rattle.record.specs.Unused.{cleanTest}
-use Rattle.record.specs.UnusedLaws.{clean-test}
-use Rattle.record.specs.AddressBlock.{blockRecord}
-use Rattle.record.specs.AddressBlockLaws.{block-size, record-again, block-again, block-clean, block-sized}
+use Rattle.unused.specs.Unused.{cleanTest}
+use Rattle.unused.specs.UnusedLaws.{clean-test}
+use Rattle.address_block.specs.AddressBlock.{blockRecord}
+use Rattle.address_block.specs.AddressBlockLaws.{block-size, record-again, block-again, block-clean, block-sized}
 use Rattle.answer.specs.Answers.{WriteAnswer, wrote, refuses, outputAfter}
 use Rattle.answer.specs.OutputLaws.{written-front}
 use Rattle.store.specs.Stored.{kindOf, stored, storeAnswer}

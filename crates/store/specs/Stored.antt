@@ -9,8 +9,8 @@ use Rattle.record.specs.declared.Transport.the-variants.{Stream, Datagram}
 use Rattle.record.specs.declared.Kind.{Kind}
 use Rattle.record.specs.declared.Kind.the-variants.{Local, Unspecified, Ip4, Ip6, Unix}
 use Rattle.record.specs.declared.Record.{Record}
-use Rattle.record.specs.Unused.{cleanTest}
-use Rattle.record.specs.AddressBlock.{addressBlock}
+use Rattle.unused.specs.Unused.{cleanTest}
+use Rattle.address_block.specs.AddressBlock.{addressBlock}
 use Rattle.answer.specs.Answers.{WriteAnswer, wrote, refuses}
 
 -- "Mark 43 53 52 ("CSR")"

@@ -1,5 +1,7 @@
 // The stored form of a record, version 1 (document 01, "Stored form, version 1"): written by `store`, read by `load`.
 // No public function has a `requires`.
+use address_block::addresses_of;
+use address_block::put_addresses;
 use answer::Fault;
 use answer::Written;
 use answer::is_written;
@@ -8,11 +10,9 @@ use record::Family;
 use record::Kind;
 use record::Record;
 use record::Transport;
-use record::addresses_of;
 use record::blank;
 use record::block_length;
-use record::clean;
-use record::put_addresses;
+use unused::clean;
 ghost use mathlib.Core.Path.{_≡_};
 ghost use Prim.Native.Nat.{_≤_};
 ghost use lib.ListN.{length};

@@ -2,7 +2,7 @@
 use mathlib.Core.Path.{ap}
 use lib.ListN.{take, drop}
 use Rattle.exact.specs.Claim.{accepted as acceptedOf}
-use Rattle.record.specs.AddressBlock.{blockRecord}
+use Rattle.address_block.specs.AddressBlock.{blockRecord}
 use Rattle.fields.specs.BlockFields.{blocked}
 use Rattle.answer.specs.declared.Caller.{Caller}
 use Rattle.answer.specs.Answers.{areaOf}

@@ -10,7 +10,7 @@ use Rattle.exact.specs.Field.{shift}
 use Rattle.exact.specs.Network.{numberAt}
 use Rattle.record.specs.declared.Kind.{Kind}
 use Rattle.record.specs.Records.{bare}
-use Rattle.record.specs.AddressBlock.{blockRecord}
+use Rattle.address_block.specs.AddressBlock.{blockRecord}
 use Rattle.fields.specs.BlockFields.{blocked}
 use Rattle.answer.specs.StageLaws.{sees-as}
 use Rattle.block.proofs.Takes.{bytes-of}

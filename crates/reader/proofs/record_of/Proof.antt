@@ -2,7 +2,7 @@
 use mathlib.Core.Path.{sym, ap, _∙_}
 use mathlib.Core.Bool.{Bool}
 use Rattle.exact.specs.Pick.{pick}
-use Rattle.record.specs.AddressBlock.{blockRecord}
+use Rattle.address_block.specs.AddressBlock.{blockRecord}
 use lib.ListN.{drop}
 use Rattle.answer.specs.Sight.{callerRecord}
 use borrow.Author.Needs.{needs}

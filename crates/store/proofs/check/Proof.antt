@@ -7,8 +7,8 @@ use borrow.Author.Needs.{needs}
 use borrow.Author.Tests.{not-true, not-false, le-leb, lt-leb}
 use lib.ListN.{length}
 use Rattle.record.specs.declared.Record.{Record}
-use Rattle.record.specs.Unused.{cleanTest}
-use Rattle.record.specs.AddressBlockLaws.{address-fits, port-fits}
+use Rattle.unused.specs.Unused.{cleanTest}
+use Rattle.address_block.specs.AddressBlockLaws.{address-fits, port-fits}
 use Rattle.record.proofs.InMemory.{in-memory}
 use Rattle.answer.specs.Answers.{wrote}
 use Rattle.store.specs.Stored.{stored}

@@ -11,9 +11,9 @@ use lib.ListN.{length, getD}
 use Rattle.exact.specs.Parser.{tail-all}
 use Rattle.record.specs.declared.Family.{Family}
 use Rattle.record.specs.KnownFamily.{toldFamily}
-use Rattle.record.specs.AddressBlock.{blockRecord}
+use Rattle.address_block.specs.AddressBlock.{blockRecord}
 use Rattle.exact.specs.Parser.{bytes-of}
-use Rattle.record.specs.AddressBlockLaws.{address-fits, port-fits}
+use Rattle.address_block.specs.AddressBlockLaws.{address-fits, port-fits}
 use Rattle.store.specs.declared.Outcome.the-variants.{Accepted}
 use Rattle.store.specs.declared.Loaded.{Loaded}
 use Rattle.store.specs.Stored.{kindOf}

@@ -6,7 +6,7 @@ use denote.Ref.{now}
 use native.Mathlib.Omega.{arith}
 use lib.ListN.{take}
 use Rattle.record.specs.declared.Record.{Record}
-use Rattle.record.specs.AddressBlock.{blockRecord}
+use Rattle.address_block.specs.AddressBlock.{blockRecord}
 use Rattle.interface.specs.Buffers.{over}
 use Rattle.interface.specs.Connection.{connectionSize, connectionBytes}
 use Rattle.interface.proofs.Parts.{part-short, block-parts, caller-parts, seen-as}

@@ -1,0 +1,2 @@
+pub mod AddressBlock
+pub mod AddressBlockLaws

@@ -1,0 +1,5 @@
+pub mod Decimal
+pub mod DecimalVerdict
+pub mod DecimalLeaf
+pub mod Grows
+pub mod DecimalLaws

@@ -1,0 +1,4 @@
+pub mod Line
+pub mod LineVerdict
+pub mod LineLeaf
+pub mod LongLine

@@ -1,0 +1,77 @@
+-- `clean` puts together what its tests ensure, in the order of `cleanTest`; of a record in memory that test says what `Clean` says.
+use Prim.Native.Nat.{ℕ}
+use mathlib.Core.Path.{_≡_, sym, ap, _∙_}
+use mathlib.Core.Bool.{Bool, true}
+use borrow.Author.Needs.{needs}
+use lib.ListN.{drop}
+use Rattle.record.specs.declared.Record.{Record}
+use Rattle.record.specs.Records.{Clean}
+use Rattle.unused.specs.Unused.{zeros, cleanAddress, cleanTest}
+use Rattle.unused.specs.UnusedLaws.{clean-test}
+use Rattle.record.proofs.InMemory.{in-memory}
+use Rattle.unused.proofs.clean.Statement.{statement}
+use Rattle.unused.proofs.clean.Tie as tie
+
+-- the test's result, and what it says
+promise : (start : tie.Start) {b : Bool} → b ≡ cleanTest (start .args .r)
+    → (b ≡ cleanTest (start .args .r)) × (b ≡ true → Clean (start .args .r)) × (Clean (start .args .r) → b ≡ true)
+promise start e =
+    let law = clean-test (start .args .r) (in-memory (start .args .r) _ (start .good .0)) in
+    (e, λ t. law .0 (sym e ∙ t), λ x. e ∙ law .1 x)
+
+module _ (c : tie.After-zero-from) where
+  abbrev connection : Record
+  connection = c .before .before .before .before .args .r
+
+  first : cleanAddress (connection .kind) (connection .source) ≡ c .zero-from .result
+  first = ap (λ (n : ℕ). zeros (drop n (connection .source))) (sym (c .before .address-length .ensures)) ∙ sym (c .zero-from .ensures)
+
+module _ (c : tie.After-zero-from2) where
+  second : cleanAddress (connection (c .before .before) .kind) (connection (c .before .before) .destination) ≡ c .zero-from2 .result
+  second =
+      ap (λ (n : ℕ). zeros (drop n (connection (c .before .before) .destination))) (sym (c .before .before .before .address-length .ensures))
+      ∙ sym (c .zero-from2 .ensures)
+
+returns : tie.Need-returns
+returns c =
+    let d = c .before .before .before .before in
+    let start = d .before .before .before .before .before .before in
+    promise start
+    (rw (
+      first (d .before .before),
+      d .before .if1 .taken,
+      second d,
+      c .before .before .before .if2 .taken,
+      ← (c .before .before .clean-port .ensures),
+      c .before .if3 .taken,
+    )
+    (c .clean-port2 .ensures))
+
+returns-2 : tie.Need-returns-2
+returns-2 c =
+    let d = c .before .before .before in
+    let start = d .before .before .before .before .before .before in
+    promise start
+    (rw (
+      first (d .before .before),
+      d .before .if1 .taken,
+      second d,
+      c .before .before .if2 .taken,
+      ← (c .before .clean-port .ensures),
+      c .if3 .left,
+    ))
+
+returns-3 : tie.Need-returns-3
+returns-3 c =
+    let d = c .before in
+    promise (d .before .before .before .before .before .before)
+    (rw (first (d .before .before), d .before .if1 .taken, second d, c .if2 .left))
+
+returns-4 : tie.Need-returns-4
+returns-4 c = promise (c .before .before .before .before .before) (rw (first (c .before), c .if1 .left))
+
+pub clean-spec : {M : Type 1} → statement M
+clean-spec =
+    tie.close
+    (tie.spec (λ c κs. search needs) (λ c κs. search needs) (λ c κs. search needs) (λ c κs. search needs) (λ c κs. search needs) returns returns-2
+    returns-3 returns-4)

@@ -1,0 +1,59 @@
+// Whether what a kind does not use is zero.
+use record::Kind;
+use record::Record;
+use record::address_length;
+ghost use mathlib.Core.Path.{_≡_};
+ghost use mathlib.Core.Bool.{true};
+ghost use lib.ListN.{drop};
+ghost use Rattle.record.specs.Records.{Clean};
+ghost use Rattle.unused.specs.Unused.{zeros, cleanPort, cleanTest};
+
+// Whether the bytes from this place on are zero.
+fn zero_from(address: [u8; 108], at: usize) -> bool
+    ensures { λ r. ⌜ r ≡ zeros (drop at address) ⌝ }
+{
+    let mut i = at;
+    while i < 108 {
+        if address[i] != 0 {
+            return false;
+        }
+        i += 1;
+    }
+    true
+}
+
+// Whether the port is zero, or the kind has ports.
+fn clean_port(kind: Kind, port: u16) -> bool
+    ensures { λ r. ⌜ r ≡ cleanPort kind port ⌝ }
+{
+    match kind {
+        Kind::Local => port == 0,
+        Kind::Unspecified => port == 0,
+        Kind::Ip4(_) => true,
+        Kind::Ip6(_) => true,
+        Kind::Unix(_) => port == 0,
+    }
+}
+
+// Whether the address bytes and ports that the record's kind does not use are zero.
+pub fn clean(r: Record) -> bool
+    ensures { λ b. ⌜ (b ≡ cleanTest r) × (b ≡ true → Clean r) × (Clean r → b ≡ true) ⌝ }
+{
+    let kind = r.kind;
+    let source = r.source;
+    let destination = r.destination;
+    let used = address_length(kind);
+    if zero_from(source, used) {
+        if zero_from(destination, used) {
+            if clean_port(kind, r.source_port) {
+                clean_port(kind, r.destination_port)
+            } else {
+                false
+            }
+        } else {
+            false
+        }
+    } else {
+        false
+    }
+}
