@@ -2,16 +2,14 @@
 use mathlib.Core.Path.{_≡_, refl, sym, ap, _∙_}
 use mathlib.Core.Bool.{Bool, true, false}
 use mathlib.Core.List.{List, [], _∷_}
-use Prim.Native.Nat.{ℕ, _-_, _≤_, _<_, min}
+use Prim.Native.Nat.{ℕ, _-_, _≤_, _<_}
 use native.Mathlib.Omega.{arith}
-use lib.Dec.{eqb}
 use lib.ListN.{length, take, drop, length-take, length-drop}
 use borrow.Author.Tests.{le-leb, lt-leb}
 use Rattle.exact.specs.Claim as Claim
 use Rattle.exact.specs.Pick.{pick}
 use Rattle.record.specs.declared.Kind.{Kind}
 use Rattle.record.specs.declared.Record.{Record}
-use Rattle.record.specs.Kinds.{blockLength}
 use Rattle.address_block.specs.AddressBlock.{blockRecord}
 use Rattle.header.specs.Header.{Header}
 use Rattle.answer.specs.declared.Verdict.{Verdict}
@@ -23,11 +21,12 @@ use Rattle.answer.specs.Sight.{callerRecord, inBytes, recordBy, readingOf}
 use Rattle.answer.specs.Answers.{Answers, toldVerdict, bareUnless}
 use Rattle.reader.specs.Area.{areaBy, areaStart, areaEnd}
 use Rattle.reader.specs.AreaLaws.{area-inside, area-part}
-use Rattle.interface.specs.declared.numbers.Told.{Told}
-use Rattle.interface.specs.Buffers.{over, toldIn, numbersSize}
-use Rattle.interface.specs.BufferLaws.{roomy}
-use Rattle.interface.specs.Connection.{connectionSize, connectionBytes}
-use Rattle.dawnhawse.specs.ReadInterface.{answerNumber, numbersOf, spokenRecord, roomFor, readAnswer, readNumbers, readConnection, toldOf}
+use Rattle.numbers.specs.declared.Told.{Told}
+use Rattle.lent.specs.Buffers.{over, toldIn}
+use Rattle.numbers.specs.Numbers.{numbersSize, toldOf}
+use Rattle.lent.specs.BufferLaws.{roomy}
+use Rattle.connection.specs.Connection.{connectionSize, connectionBytes}
+use Rattle.dawnhawse.specs.ReadInterface.{answerNumber, numbersOf, spokenRecord, roomFor, readAnswer, readNumbers, readConnection}
 
 -- ── the record ──
 spoken-by : (s : List ℕ) (w : Verdict) (r : Reading) (v : Claim.Verdict Header) → toldVerdict s w r ≡ v → bareUnless w r → spokenRecord v ≡ r .record
@@ -37,16 +36,6 @@ spoken-by s (Refused k p) r v e u = ap spokenRecord (sym e) ∙ sym u
 
 spoken : {s : List ℕ} {v : Claim.Verdict Header} {r : Reading} → Answers s v r → spokenRecord v ≡ r .record
 spoken {s} {v} {r} a = spoken-by s (r .verdict) r v (a .told) (a .unused)
-
--- ── the numbers ──
--- the area is no longer than the header
-end-by : (n size : ℕ) (b c : Bool) → pick b (pick c 0 (min n size)) 0 ≤ n
-end-by n size true true = omega arith
-end-by n size true false = omega arith
-end-by n size false c = omega arith
-
-pub end-within-header : (kind : Kind) (size n v : ℕ) → areaEnd (Accepted n v) kind size ≤ n
-end-within-header kind size n v = end-by n size (eqb v 2) (eqb (blockLength kind) 0)
 
 area-length : (w : Verdict) (kind : Kind) (s : List ℕ) → length (areaBy w kind s) ≡ areaEnd w kind (length s) - areaStart w kind (length s)
 area-length w kind s =

@@ -12,9 +12,9 @@ use Rattle.exact.specs.Pick.{pick, pick-by}
 use Rattle.record.specs.declared.Record.{Record}
 use Rattle.answer.specs.declared.Written.{Written}
 use Rattle.answer.specs.Answers.{WriteAnswer, wrote, refuses, toldWritten, outputAfter}
-use Rattle.interface.specs.declared.connection.Asked.{Asked}
-use Rattle.interface.specs.Buffers.{numbersSize}
-use Rattle.dawnhawse.specs.WriteInterface.{roomBeside, askedAnswer, writtenNumber, numbersAfter, Writes}
+use Rattle.connection.specs.declared.Asked.{Asked}
+use Rattle.numbers.specs.Numbers.{numbersSize, roomBeside, writtenNumber, numbersAfter}
+use Rattle.dawnhawse.specs.WriteInterface.{askedAnswer, Writes}
 
 -- ── what a writer leaves of a part of the output ──
 -- what is written fits the room

@@ -7,18 +7,14 @@ use lib.ListN.{length}
 use Rattle.exact.specs.Claim as Claim
 use Rattle.exact.specs.Claim.{accepted, more, refused}
 use Rattle.exact.specs.Pick.{pick}
-use Rattle.record.specs.declared.Kind.{Kind}
 use Rattle.record.specs.declared.Kind.the-variants.{Unspecified}
 use Rattle.record.specs.declared.Record.{Record}
 use Rattle.record.specs.Records.{bare}
 use Rattle.header.specs.Header.{Header}
 use Rattle.answer.specs.declared.Verdict.{Verdict}
-use Rattle.answer.specs.declared.Verdict.the-variants.{Accepted, More, Refused}
-use Rattle.answer.specs.Answers.{numberOf}
-use Rattle.reader.specs.Area.{areaStart, areaEnd}
-use Rattle.interface.specs.declared.numbers.Told.{Told}
-use Rattle.interface.specs.Buffers.{over, numbersSize}
-use Rattle.interface.specs.Connection.{connectionSize, connectionBytes}
+use Rattle.lent.specs.Buffers.{over}
+use Rattle.numbers.specs.Numbers.{numbersSize}
+use Rattle.connection.specs.Connection.{connectionSize, connectionBytes}
 
 -- "Numbered answers": the refusal's number; 0 is accepted, 255 is more
 abbrev pub answerNumber : Claim.Verdict Header → ℕ
@@ -52,17 +48,3 @@ readNumbers v numbers connection = pick (roomFor numbers connection) (over (numb
 abbrev pub readConnection : Claim.Verdict Header → List ℕ → List ℕ → List ℕ
 readConnection v numbers connection =
     pick (roomFor numbers connection) (over (connectionBytes (spokenRecord v)) connection) connection
-
--- ── as the code finds them ──
--- what is told of a verdict on size bytes, and the kind of its record
-abbrev pub toldOf : Verdict → Kind → ℕ → Told
-toldOf (Accepted n v) kind size =
-    record {
-      answer = 0;
-      first = n;
-      second = v;
-      start = n - (areaEnd (Accepted n v) kind size - areaStart (Accepted n v) kind size);
-      length = areaEnd (Accepted n v) kind size - areaStart (Accepted n v) kind size;
-    }
-toldOf More kind size = record { answer = 255; first = 0; second = 0; start = 0; length = 0 }
-toldOf (Refused k p) kind size = record { answer = numberOf k; first = p; second = 0; start = 0; length = 0 }

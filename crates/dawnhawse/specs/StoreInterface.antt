@@ -4,14 +4,10 @@ use Prim.Native.Nat.{ℕ}
 use lib.Dec.{leb}
 use lib.ListN.{length}
 use Rattle.exact.specs.Pick.{pick}
-use Rattle.store.specs.Loading.{LoadAnswer, loads, noRecord, loadedRecord}
-use Rattle.interface.specs.Buffers.{toldIn}
-use Rattle.interface.specs.Connection.{connectionSize, connectionBytes}
-
--- 0 is accepted; else "15, 16, 17, 18"
-abbrev pub loadNumber : LoadAnswer → ℕ
-loadNumber (loads r) = 0
-loadNumber (noRecord k) = k
+use Rattle.store.specs.Loading.{LoadAnswer, loadedRecord}
+use Rattle.lent.specs.Buffers.{toldIn}
+use Rattle.connection.specs.Connection.{connectionSize, connectionBytes}
+use Rattle.numbers.specs.Numbers.{loadNumber}
 
 -- the answer of `dawnhawse_load`, and what it leaves in the connection: with too little room 14, and the bytes as they were
 abbrev pub loadedNumber : LoadAnswer → List ℕ → ℕ

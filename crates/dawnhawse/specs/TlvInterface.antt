@@ -6,17 +6,11 @@ use lib.Dec.{leb}
 use lib.ListN.{length}
 use Rattle.exact.specs.Pick.{pick}
 use Rattle.lookup.specs.declared.Examined.{Examined}
-use Rattle.lookup.specs.Lookup.{Outcome, found, absent, gaveUp, refused as noArea, Lookup, toldLookup, LooksUp}
+use Rattle.lookup.specs.Lookup.{Lookup, toldLookup, LooksUp}
 use Rattle.walker.specs.Step.{Step, shown, end, refused, startOf, lengthOf, placeAfter}
-use Rattle.interface.specs.declared.numbers.Told.{Told}
-use Rattle.interface.specs.Buffers.{numbersSize, toldIn}
-
--- "An ill-formed area: 12"; 0 is found, 253 absent, 254 gave up
-abbrev pub lookupNumber : Outcome → ℕ
-lookupNumber found = 0
-lookupNumber absent = 253
-lookupNumber gaveUp = 254
-lookupNumber (noArea number) = number
+use Rattle.numbers.specs.declared.Told.{Told}
+use Rattle.lent.specs.Buffers.{toldIn}
+use Rattle.numbers.specs.Numbers.{numbersSize, lookupNumber}
 
 -- the number of TLVs examined, the type asked for, and where the value starts in the area and its length
 abbrev pub lookupNumbers : ℕ → Lookup → List ℕ

@@ -1,45 +1,12 @@
 // What the bytes so far are, for C callers.
-use answer::Verdict;
-use interface::CONNECTION;
-use interface::NUMBERS;
-use interface::Told;
-use interface::put_numbers;
-use interface::put_seen;
-use record::Kind;
+use connection::CONNECTION;
+use connection::put_seen;
+use numbers::NUMBERS;
+use numbers::put_numbers;
+use numbers::tell;
 ghost use mathlib.Core.Path.{_≡_};
 ghost use Rattle.fields.specs.Exactness.{verdict as verdictOn};
-ghost use Rattle.dawnhawse.specs.ReadInterface.{readAnswer, readNumbers, readConnection, toldOf};
-
-// What a verdict on size bytes and the kind tell.
-fn tell(verdict: Verdict, kind: Kind, size: usize) -> Told
-    ensures { λ r. ⌜ r ≡ toldOf verdict kind size ⌝ }
-{
-    let span = reader::area_span(verdict, kind, size);
-    let area = span.end - span.start;
-    match verdict {
-        Verdict::Accepted { length, version } => Told {
-            answer: 0,
-            first: length as u64,
-            second: version as u64,
-            start: (length - area) as u64,
-            length: area as u64,
-        },
-        Verdict::More => Told {
-            answer: 255,
-            first: 0,
-            second: 0,
-            start: 0,
-            length: 0,
-        },
-        Verdict::Refused { refusal, place } => Told {
-            answer: answer::number(refusal) as u32,
-            first: place as u64,
-            second: 0,
-            start: 0,
-            length: 0,
-        },
-    }
-}
+ghost use Rattle.dawnhawse.specs.ReadInterface.{readAnswer, readNumbers, readConnection};
 
 // What the bytes so far are: demand 3 of document 01. With room for 4 numbers and 221 bytes of a connection both are told; else nothing
 // is written.

@@ -1,19 +1,18 @@
 // The stored form, for C callers.
-use crate::write::room_beside;
-use crate::write::tell_written;
-use interface::CONNECTION;
-use interface::put_record;
-use interface::request;
-use store::Outcome;
-use store::flaw_number;
+use connection::CONNECTION;
+use connection::put_record;
+use connection::request;
+use numbers::outcome_number;
+use numbers::room_beside;
+use numbers::tell_written;
 ghost use mathlib.Core.Path.{_≡_};
 ghost use lib.ListN.{length};
 ghost use Rattle.store.specs.Stored.{stored, storeAnswer};
-ghost use Rattle.record.specs.declared.Record.{Record};
-ghost use Rattle.store.specs.Loading.{toldOutcome, loadAnswer};
-ghost use Rattle.interface.specs.Connection.{request as requestOf};
-ghost use Rattle.dawnhawse.specs.WriteInterface.{roomBeside, askedAnswer, Writes};
-ghost use Rattle.dawnhawse.specs.StoreInterface.{loadNumber, loadedNumber, loadedConnection};
+ghost use Rattle.store.specs.Loading.{loadAnswer};
+ghost use Rattle.connection.specs.Connection.{request as requestOf};
+ghost use Rattle.dawnhawse.specs.WriteInterface.{askedAnswer, Writes};
+ghost use Rattle.numbers.specs.Numbers.{roomBeside};
+ghost use Rattle.dawnhawse.specs.StoreInterface.{loadedNumber, loadedConnection};
 
 // Stores a connection; else as `dawnhawse_write_v1`.
 #[no_mangle]
@@ -30,16 +29,6 @@ pub extern "C" fn dawnhawse_store(connection: &[u8], out: &mut [u8], numbers: &m
     }
     let room = room_beside(numbers.len(), out.len());
     tell_written(store::store(record, &mut out[..room]), numbers)
-}
-
-// The number of an outcome.
-fn outcome_number(outcome: Outcome) -> u32
-    ensures { λ r. ⌜ ((c : Record) → r ≡ loadNumber (toldOutcome outcome c)) ⌝ }
-{
-    match outcome {
-        Outcome::Accepted => 0,
-        Outcome::Refused(flaw) => flaw_number(flaw) as u32,
-    }
 }
 
 // Loads a connection. With room for its 221 bytes it is told; else nothing is written.

@@ -1,28 +1,15 @@
 // Looking into a TLV area, for C callers.
-use interface::NUMBERS;
-use interface::Told;
-use interface::put_numbers;
-use lookup::Answer;
+use numbers::NUMBERS;
+use numbers::Told;
+use numbers::lookup_number;
+use numbers::put_numbers;
 use walker::Shown;
 ghost use mathlib.Core.Path.{_≡_};
 ghost use Prim.Native.Nat.{_+_, _≤_};
 ghost use lib.ListN.{drop};
 ghost use Rattle.tlv.specs.Tlv.{WellFormed};
-ghost use Rattle.lookup.specs.Lookup.{toldOutcome};
 ghost use Rattle.walker.specs.Step.{toldStep, headAt, stepAt, startOf, lengthOf};
-ghost use Rattle.dawnhawse.specs.TlvInterface.{lookupNumber, LookedUp, stepTold, Stepped};
-
-// The number of a lookup's answer.
-fn lookup_number(answer: Answer) -> u32
-    ensures { λ r. ⌜ r ≡ lookupNumber (toldOutcome answer) ⌝ }
-{
-    match answer {
-        Answer::Found => 0,
-        Answer::Absent => 253,
-        Answer::GaveUp => 254,
-        Answer::IllFormed => 12,
-    }
-}
+ghost use Rattle.dawnhawse.specs.TlvInterface.{LookedUp, stepTold, Stepped};
 
 // Looks for the first TLV of a type in a TLV area, of which at most as many TLVs are examined as the limit says. With room for 4 numbers
 // they are told; else nothing is written.

@@ -1,37 +1,14 @@
 // The writers of both versions, for C callers.
-use answer::Written;
-use answer::fault_number;
-use interface::NUMBERS;
-use interface::put_numbers;
-use interface::request;
-ghost use mathlib.Core.Path.{_≡_};
+use connection::request;
+use numbers::room_beside;
+use numbers::tell_written;
 ghost use lib.ListN.{length};
-ghost use Rattle.answer.specs.Answers.{toldWritten};
 ghost use Rattle.record.specs.declared.Record.{Record};
 ghost use Rattle.line_writer.specs.Written.{lineAnswer, writtenLine};
 ghost use Rattle.block_writer.specs.Written.{blockAnswer, writtenBlock};
-ghost use Rattle.interface.specs.Connection.{request as requestOf};
-ghost use Rattle.dawnhawse.specs.WriteInterface.{roomBeside, askedAnswer, writtenNumber, numbersAfter, Writes};
-
-// The room of an output beside so many numbers: none, where they are too few.
-pub(crate) fn room_beside(numbers: usize, output: usize) -> usize
-    ensures { λ r. ⌜ r ≡ roomBeside numbers output ⌝ }
-{
-    if numbers < NUMBERS { 0 } else { output }
-}
-
-// Tells what a writer has written, the length where the numbers have room.
-pub(crate) fn tell_written(written: Written, numbers: &mut [u64]) -> u32
-    ensures { λ r. ⌜ (r ≡ writtenNumber (toldWritten written)) × (now (numbers .exit) ≡ numbersAfter (toldWritten written) (now (numbers .entry))) ⌝ }
-{
-    match written {
-        Written::Bytes(n) => {
-            put_numbers(numbers, n as u64, 0, 0, 0);
-            0
-        }
-        Written::Refused(fault) => fault_number(fault) as u32,
-    }
-}
+ghost use Rattle.connection.specs.Connection.{request as requestOf};
+ghost use Rattle.dawnhawse.specs.WriteInterface.{askedAnswer, Writes};
+ghost use Rattle.numbers.specs.Numbers.{roomBeside};
 
 // Writes a connection's version 1 line, and tells its length; or answers why not, and leaves both buffers as they were.
 #[no_mangle]

@@ -7,10 +7,9 @@ use lib.ListN.{length, take, drop, getD, set, replicate, take-append-drop, drop-
 use lib.Seq.{drop-cons, getD-at, set-at, length-take-le, take-all, take-suc, take-take, getD-take}
 use borrow.Author.Tests.{eq-eqb, ne-eqb}
 use Rattle.exact.specs.Machine.{done, dead}
-use Rattle.ip6.specs.Partial.{Partial}
+use Rattle.ip6.specs.Partial.{Partial, seenAt, gatheredOf, Sized, spreadAt, spread}
 use Rattle.ip6.specs.Address.{filled}
 use Rattle.ip6.specs.Machine.{finish}
-use Rattle.ip6.specs.Partial.{seenAt, gatheredOf, Sized, spreadAt, spread}
 
 zeros-snoc : (m : ℕ) → _≡_ {A = List ℕ} (0 ∷ replicate m 0) (replicate m 0 ++ 0 ∷ [])
 zeros-snoc zero = refl

@@ -1,3 +1,5 @@
 pub mod Placed
 pub mod PlacedLaws
 pub mod PartLaws
+pub mod Buffers
+pub mod BufferLaws

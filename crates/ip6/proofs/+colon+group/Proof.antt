@@ -13,8 +13,7 @@ use Rattle.ip6.specs.Answer.{From}
 use Rattle.ip6.proofs.Gathered.{push-sized, gap-sized}
 use Rattle.ip6.proofs.Turn.{wants}
 use Rattle.ip6.proofs.AtGroup.{digits-fit, digits-more, group-none, group-long, group-digit, group-ends}
-use Rattle.ip6.proofs.AtColon.{held, behind-other, behind-ends, behind-full, behind-colon, colon-lone, colon-group, colon-twice, colon-gap}
-use Rattle.ip6.proofs.AtColon.{gap-full, gap-ends, gap-group}
+use Rattle.ip6.proofs.AtColon.{held, behind-other, behind-ends, behind-full, behind-colon, colon-lone, colon-group, colon-twice, colon-gap, gap-full, gap-ends, gap-group}
 use borrow.Fn.Kinds.{In}
 use borrow.Fn.PlainCycle.{Measures, is, falls, and}
 use Rattle.ip6.proofs.colon.Reads as colon-reads

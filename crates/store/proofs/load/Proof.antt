@@ -8,11 +8,10 @@ use borrow.Author.Needs.{needs}
 use borrow.Author.Tests.{not-true, not-false}
 use denote.Ref.{now}
 use lib.ListN.{length, getD}
-use Rattle.exact.specs.Parser.{tail-all}
+use Rattle.exact.specs.Parser.{tail-all, bytes-of}
 use Rattle.record.specs.declared.Family.{Family}
 use Rattle.record.specs.KnownFamily.{toldFamily}
 use Rattle.address_block.specs.AddressBlock.{blockRecord}
-use Rattle.exact.specs.Parser.{bytes-of}
 use Rattle.address_block.specs.AddressBlockLaws.{address-fits, port-fits}
 use Rattle.store.specs.declared.Outcome.the-variants.{Accepted}
 use Rattle.store.specs.declared.Loaded.{Loaded}

@@ -4,10 +4,10 @@ use native.Mathlib.Omega.{arith}
 use denote.Ref.{now}
 use Rattle.record.specs.declared.Record.{Record}
 use Rattle.store.specs.Loading.{LoadAnswer}
-use Rattle.interface.specs.Buffers.{toldIn}
-use Rattle.interface.specs.BufferLaws.{roomy, cramped}
-use Rattle.interface.specs.Connection.{connectionSize, connectionBytes}
-use Rattle.dawnhawse.specs.StoreInterface.{loadNumber}
+use Rattle.lent.specs.Buffers.{toldIn}
+use Rattle.lent.specs.BufferLaws.{roomy, cramped}
+use Rattle.connection.specs.Connection.{connectionSize, connectionBytes}
+use Rattle.numbers.specs.Numbers.{loadNumber}
 use borrow.Author.Needs.{needs}
 use Rattle.dawnhawse.proofs.stored.dawnhawse_load.Statement.{statement}
 use Rattle.dawnhawse.proofs.stored.dawnhawse_load.Tie as tie

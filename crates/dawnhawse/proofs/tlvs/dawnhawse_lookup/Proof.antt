@@ -2,8 +2,8 @@
 use mathlib.Core.Path.{_∙_}
 use native.Mathlib.Omega.{arith}
 use denote.Ref.{now}
-use Rattle.interface.specs.Buffers.{numbersSize}
-use Rattle.interface.specs.BufferLaws.{roomy, cramped}
+use Rattle.numbers.specs.Numbers.{numbersSize}
+use Rattle.lent.specs.BufferLaws.{roomy, cramped}
 use borrow.Author.Needs.{needs}
 use Rattle.dawnhawse.proofs.tlvs.dawnhawse_lookup.Statement.{statement}
 use Rattle.dawnhawse.proofs.tlvs.dawnhawse_lookup.Tie as tie

@@ -3,9 +3,10 @@ use mathlib.Core.Path.{ap, _∙_}
 use mathlib.Core.List.{[], _∷_}
 use native.Mathlib.Omega.{arith}
 use denote.Ref.{now}
-use Rattle.interface.specs.declared.numbers.Told.{Told}
-use Rattle.interface.specs.Buffers.{numbersSize, toldIn}
-use Rattle.interface.specs.BufferLaws.{roomy, cramped}
+use Rattle.numbers.specs.declared.Told.{Told}
+use Rattle.lent.specs.Buffers.{toldIn}
+use Rattle.numbers.specs.Numbers.{numbersSize}
+use Rattle.lent.specs.BufferLaws.{roomy, cramped}
 use borrow.Author.Needs.{needs}
 use Rattle.dawnhawse.proofs.tlvs.put_step.Statement.{statement}
 use Rattle.dawnhawse.proofs.tlvs.put_step.Tie as tie

@@ -1,0 +1,173 @@
+// A connection, as C callers hold a record: the stored form's kind code, two addresses of 108 bytes, and two ports, high byte first.
+// No public function has a `requires`.
+use address_block::destination_port_of;
+use address_block::source_port_of;
+use answer::Seen;
+use exact::number;
+use lent::behind;
+use lent::front;
+use reader::in_bytes;
+use record::Family;
+use record::Kind;
+use record::Record;
+use record::address_length;
+use record::blank;
+use record::record_with;
+use store::code_of;
+use store::kind_of;
+ghost use mathlib.Core.Path.{_≡_};
+ghost use Prim.Native.Nat.{_+_, _≤_};
+ghost use lib.ListN.{length, take, drop};
+ghost use Rattle.record.specs.Records.{held, recordOf};
+ghost use Rattle.lent.specs.Placed.{placed};
+ghost use Rattle.answer.specs.Sight.{recordBy};
+ghost use Rattle.lent.specs.Buffers.{over, toldIn};
+ghost use Rattle.connection.specs.Connection.{connectionSize, connectionBytes, givenRecord, request as requestOf};
+
+// 1 + 108 + 108 + 2 + 2.
+pub const CONNECTION: usize = 221;
+
+// Puts an address, and zeros behind it up to 108 bytes, at this place of the output.
+fn put_address(address: &[u8], out: &mut [u8], at: usize)
+    requires { ⌜ (length (now address) ≤ 108) × (at + 108 ≤ length (now out)) ⌝ }
+    ensures { λ _. ⌜ now (out .exit) ≡ placed (held (now (address .entry))) at (now (out .entry)) ⌝ }
+{
+    let zeros = [0u8; 108];
+    lent::put(&zeros, out, at);
+    lent::put(address, out, at);
+}
+
+// Puts a connection's parts at the front of the output.
+fn put_connection(
+    kind: Kind,
+    source: &[u8],
+    destination: &[u8],
+    source_port: u16,
+    destination_port: u16,
+    out: &mut [u8],
+)
+    requires { ⌜ (length (now source) ≤ 108) × (length (now destination) ≤ 108) × (connectionSize ≤ length (now out)) ⌝ }
+    ensures { λ _. ⌜ now (out .exit) ≡ over (connectionBytes (recordOf kind (now (source .entry)) (now (destination .entry)) «source_port» «destination_port»)) (now (out .entry)) ⌝ }
+{
+    let code = [code_of(kind)];
+    let from = [(source_port / 256) as u8, (source_port % 256) as u8];
+    let to = [
+        (destination_port / 256) as u8,
+        (destination_port % 256) as u8,
+    ];
+    lent::put(&code, out, 0);
+    put_address(source, out, 1);
+    put_address(destination, out, 109);
+    lent::put(&from, out, 217);
+    lent::put(&to, out, 219);
+}
+
+// Puts the connection that is seen in the bytes, where the output has room for it; else it stays as it is. The addresses are lent by the
+// bytes or by the caller, and copied once.
+pub fn put_seen(bytes: &[u8], seen: Seen, out: &mut [u8])
+    ensures { λ _. ⌜ now (out .exit) ≡ toldIn connectionSize (connectionBytes (recordBy (seen .verdict) (now (bytes .entry)) (seen .caller))) (now (out .entry)) ⌝ }
+{
+    if out.len() < CONNECTION {
+        return;
+    }
+    let verdict = seen.verdict;
+    let caller = seen.caller;
+    let kind = caller.kind;
+    let source = caller.source;
+    let destination = caller.destination;
+    let n = address_length(kind);
+    if in_bytes(verdict) {
+        let block = behind(bytes, 16);
+        let p = source_port_of(kind, block);
+        let q = destination_port_of(kind, block);
+        let from = front(block, n);
+        let to = front(behind(block, n), n);
+        put_connection(kind, from, to, p, q, out);
+    } else {
+        let from = front(&source, n);
+        let to = front(&destination, n);
+        put_connection(
+            kind,
+            from,
+            to,
+            caller.source_port,
+            caller.destination_port,
+            out,
+        );
+    }
+}
+
+// Puts a record's connection, where the output has room for it; else it stays as it is.
+pub fn put_record(record: Record, out: &mut [u8])
+    ensures { λ _. ⌜ now (out .exit) ≡ toldIn connectionSize (connectionBytes «record») (now (out .entry)) ⌝ }
+{
+    if out.len() < CONNECTION {
+        return;
+    }
+    let kind = record.kind;
+    let source = record.source;
+    let destination = record.destination;
+    put_connection(
+        kind,
+        &source,
+        &destination,
+        record.source_port,
+        record.destination_port,
+        out,
+    );
+}
+
+// The address at a place of a connection.
+fn address_at(bytes: &[u8], at: usize) -> [u8; 108]
+    requires { ⌜ at + 108 ≤ length (now bytes) ⌝ }
+    ensures { λ r. ⌜ r ≡ take 108 (drop at (now (bytes .entry))) ⌝ }
+{
+    let mut held = [0u8; 108];
+    let end = at + 108;
+    lent::put(&bytes[at..end], &mut held, 0);
+    held
+}
+
+// The record of a connection of this kind.
+fn connection_of(kind: Kind, bytes: &[u8]) -> Record
+    requires { ⌜ length (now bytes) ≡ connectionSize ⌝ }
+    ensures { λ r. ⌜ r ≡ givenRecord kind (now (bytes .entry)) ⌝ }
+{
+    let source = address_at(bytes, 1);
+    let destination = address_at(bytes, 109);
+    record_with(
+        kind,
+        source,
+        destination,
+        number(bytes[217], bytes[218]),
+        number(bytes[219], bytes[220]),
+    )
+}
+
+// What a writer is asked for: a record, or the number that refuses it before its record is looked at.
+pub struct Asked {
+    pub number: u32,
+    pub record: Record,
+}
+
+// What the bytes of a connection ask for: 18 for another length, 17 for an unknown kind code.
+pub fn request(bytes: &[u8]) -> Asked
+    ensures { λ r. ⌜ r ≡ requestOf (now (bytes .entry)) ⌝ }
+{
+    if bytes.len() != CONNECTION {
+        return Asked {
+            number: 18,
+            record: blank(Kind::Unspecified),
+        };
+    }
+    match kind_of(bytes[0]) {
+        Family::Known(kind) => Asked {
+            number: 0,
+            record: connection_of(kind, bytes),
+        },
+        Family::Unknown => Asked {
+            number: 17,
+            record: blank(Kind::Unspecified),
+        },
+    }
+}
