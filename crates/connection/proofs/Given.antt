@@ -10,7 +10,7 @@ use borrow.Author.Tests.{eq-eqb, ne-eqb}
 use Rattle.exact.specs.Pick.{pick}
 use Rattle.lent.specs.Placed.{placed}
 use Rattle.lent.specs.PlacedLaws.{placed-front}
-use Rattle.store.specs.Stored.{kindOf}
+use Rattle.kind_code.specs.Codes.{kindOf}
 use Rattle.connection.specs.Connection.{connectionSize, refusedWith, byKind, request}
 
 module _ (b : List ℕ) where

@@ -10,7 +10,7 @@ use Rattle.record.specs.declared.Kind.{Kind}
 use Rattle.record.specs.declared.Kind.the-variants.{Unspecified}
 use Rattle.record.specs.declared.Record.{Record}
 use Rattle.record.specs.Records.{recordWith, bare}
-use Rattle.store.specs.Stored.{codeOf, kindOf}
+use Rattle.kind_code.specs.Codes.{codeOf, kindOf}
 use Rattle.connection.specs.declared.Asked.{Asked}
 
 -- 1 + 108 + 108 + 2 + 2

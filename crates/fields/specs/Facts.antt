@@ -20,7 +20,7 @@ use Rattle.ip4.specs.Ip4.{Address as Ip4Address}
 use Rattle.ip4.specs.Ip4Verdict.{ip4Verdict}
 use Rattle.decimal.specs.DecimalLaws.{decimal-length}
 use Rattle.ip4.specs.Ip4Laws.{address-length}
-use Rattle.ip6.specs.Address.{hexOf}
+use Rattle.hex.specs.Hex.{hexOf}
 use Rattle.ip6.specs.Bounds.{address-bounds}
 use Rattle.tlv.specs.Room.{filled-fillable}
 use Rattle.record.specs.declared.Transport.the-variants.{Stream}

@@ -22,7 +22,7 @@ use Rattle.exact.specs.Numbered.{Numbered, numbered-just, numbered-leaf, number
 use Rattle.decimal.specs.Decimal.{Digits, Decimal}
 use Rattle.ip4.specs.Ip4.{Address as Ip4Address}
 use Rattle.line_end.specs.LineLeaf.{LineEnd}
-use Rattle.ip6.specs.Address.{hexOf}
+use Rattle.hex.specs.Hex.{hexOf}
 use Rattle.ip6.specs.Bounds.{Spelt, address-bounds}
 use Rattle.ip6.specs.Parser.{space-ends}
 use Rattle.record.specs.declared.Kind.{Kind}

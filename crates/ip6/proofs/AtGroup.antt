@@ -9,7 +9,7 @@ use borrow.Author.Tests.{lt-ltb, le-ltb, eq-eqb}
 use Rattle.exact.specs.Machine.{dead}
 use Rattle.exact.specs.declared.Scan.{Scan}
 use Rattle.exact.specs.declared.Scan.the-variants.{Refused}
-use Rattle.ip6.specs.Address.{hexOf}
+use Rattle.hex.specs.Hex.{hexOf}
 use Rattle.ip6.specs.Machine.{Gathered, digits, behind, inside, follow}
 use Rattle.ip6.specs.Steps.{inside-digit, inside-follow}
 use Rattle.ip6.specs.Partial.{Partial, Sized, gatheredOf}

@@ -1,25 +1,12 @@
 -- IPv6 text (document 01, "The text line"): which bytes are an address, and the eight groups that it says.
 use mathlib.Core.Path.{_≡_}
-use mathlib.Core.Bool.{Bool, false}
 use mathlib.Core.List.{List, [], _∷_, _++_}
 use mathlib.Core.Logic.{_⊎_}
 use Prim.Native.Nat.{ℕ, _+_, _*_, _-_, _≤_, _<_}
-use Prim.Native.Char.{Char, code}
-use lib.Dec.{leb}
+use Prim.Native.Char.{code}
 use lib.ListN.{length, replicate}
 use Rattle.exact.specs.Ascii.{ascii}
-use Rattle.exact.specs.Pick.{pick}
-
--- c is one of the characters from a to z
-abbrev pub among : Char → Char → ℕ → Bool
-among a z c = pick (leb (code a) c) (leb c (code z)) false
-
--- the value of a hex digit "in either case"; 16 where c is none
-unfoldable pub hexOf : ℕ → ℕ
-hexOf c =
-    pick (among "0" "9" c) (c - code "0")
-    (pick (among "a" "f" c) (c - code "a" + 10)
-    (pick (among "A" "F" c) (c - code "A" + 10) 16))
+use Rattle.hex.specs.Hex.{hexOf}
 
 -- hex digits, one after the other
 abbrev pub HexDigits : List ℕ → Type 0

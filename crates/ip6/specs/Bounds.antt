@@ -7,8 +7,9 @@ use native.Mathlib.Omega.{arith}
 use lib.ListN.{length, length-append, replicate, length-replicate}
 use Rattle.exact.specs.Ascii.{ascii}
 use Rattle.exact.specs.Claim.{AllBytes}
-use Rattle.ip6.specs.Address.{hexOf, HexDigits, Group, Groups, Side, Address}
-use Rattle.ip6.specs.Hex.{hex-byte}
+use Rattle.hex.specs.Hex.{hexOf}
+use Rattle.ip6.specs.Address.{HexDigits, Group, Groups, Side, Address}
+use Rattle.hex.specs.HexLaws.{hex-byte}
 
 abbrev pub AllWords : List ℕ → Type 0
 AllWords [] = Unit {0}

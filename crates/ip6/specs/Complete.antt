@@ -7,8 +7,9 @@ use native.Mathlib.Omega.{arith}
 use lib.Dec.{eqb}
 use lib.ListN.{length}
 use borrow.Author.Tests.{eqb-true, eqb-false, lt-ltb}
-use Rattle.ip6.specs.Address.{hexOf, filled, Ending}
-use Rattle.ip6.specs.Hex.{hex-zero}
+use Rattle.hex.specs.Hex.{hexOf}
+use Rattle.ip6.specs.Address.{filled, Ending}
+use Rattle.hex.specs.HexLaws.{hex-zero}
 use Rattle.ip6.specs.Machine.{Gathered, plain, gapped, push, room, State, start, digits, behind, colon, gap, inside, step}
 use Rattle.ip6.specs.Read.{Fits, fits-push, Good}
 use Rattle.ip6.specs.Steps.{colon-no-digit, Takes, goes, ends, alike, colon-colon, gap-end, follow-colon, follow-end, inside-digit, inside-follow}

@@ -2,7 +2,6 @@ pub mod Address
 pub mod Bounds
 pub mod ScannedAddress
 pub mod Machine
-pub mod Hex
 pub mod Steps
 pub mod Read
 pub mod Complete

@@ -6,7 +6,8 @@ use lib.Dec.{eqb, ltb}
 use lib.ListN.{length}
 use Rattle.exact.specs.Machine.{Move, go, done, dead}
 use Rattle.exact.specs.Pick.{pick}
-use Rattle.ip6.specs.Address.{hexOf, filled}
+use Rattle.hex.specs.Hex.{hexOf}
+use Rattle.ip6.specs.Address.{filled}
 
 -- the groups so far: all of them while no "::" has come; those before it and those behind it
 pub data Gathered : Type 0 where

@@ -7,7 +7,8 @@ use Rattle.exact.specs.Claim.{AllBytes}
 use Rattle.exact.specs.Ended.{Ended}
 use Rattle.exact.specs.Machine.{leaf}
 use Rattle.exact.specs.Parser.{Parser, machine, recast, ended-bytes}
-use Rattle.ip6.specs.Address.{hexOf, Address, Ending}
+use Rattle.hex.specs.Hex.{hexOf}
+use Rattle.ip6.specs.Address.{Address, Ending}
 use Rattle.ip6.specs.Bounds.{address-bounds, spelt-bytes}
 use Rattle.ip6.specs.Machine.{start, step}
 use Rattle.ip6.specs.Read.{Good, keeps, runs-address}

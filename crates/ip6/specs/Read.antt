@@ -11,7 +11,8 @@ use borrow.Author.Tests.{eqb-true, eqb-false, ltb-true}
 use Rattle.exact.specs.Ended.{Ended}
 use Rattle.exact.specs.Machine.{Move, go, done, dead, Ends, Runs}
 use Rattle.exact.specs.Pick.{pick-by}
-use Rattle.ip6.specs.Address.{hexOf, HexDigits, number, Group, Groups, Side, Address}
+use Rattle.hex.specs.Hex.{hexOf}
+use Rattle.ip6.specs.Address.{HexDigits, number, Group, Groups, Side, Address}
 use Rattle.ip6.specs.Machine.{Gathered, plain, gapped, push, room, State, start, digits, behind, colon, gap, finish, follow, inside, step}
 
 -- ── what a move leads to ──

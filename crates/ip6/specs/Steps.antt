@@ -7,8 +7,9 @@ use native.Mathlib.Omega.{arith}
 use borrow.Author.Tests.{lt-ltb, le-ltb, eq-eqb, ne-eqb}
 use Rattle.exact.specs.MachineLaws.{runs-at}
 use Rattle.exact.specs.Machine.{go, done, dead, Runs}
-use Rattle.ip6.specs.Address.{hexOf, filled, Ending}
-use Rattle.ip6.specs.Hex.{hex-colon}
+use Rattle.hex.specs.Hex.{hexOf}
+use Rattle.ip6.specs.Address.{filled, Ending}
+use Rattle.hex.specs.HexLaws.{hex-colon}
 use Rattle.ip6.specs.Machine.{Gathered, plain, push, room, State, digits, colon, gap, finish, follow, inside, step}
 
 pub colon-no-digit : hexOf 58 < 16 → ⊥

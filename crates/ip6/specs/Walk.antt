@@ -11,7 +11,8 @@ use borrow.Author.Tests.{ltb-true, lt-ltb, eq-eqb, ne-eqb}
 use Rattle.exact.specs.Ended.{Ended}
 use Rattle.exact.specs.MachineLaws.{runs-at}
 use Rattle.exact.specs.Machine.{dead, Runs}
-use Rattle.ip6.specs.Address.{hexOf, HexDigits, number, Group, Groups, Full, Side, filled, Shortened, Address, Ending}
+use Rattle.hex.specs.Hex.{hexOf}
+use Rattle.ip6.specs.Address.{HexDigits, number, Group, Groups, Full, Side, filled, Shortened, Address, Ending}
 use Rattle.ip6.specs.Machine.{Gathered, plain, gapped, push, room, State, start, digits, behind, colon, gap, inside, step}
 use Rattle.ip6.specs.Read.{Fits}
 use Rattle.ip6.specs.Steps.{colon-no-digit, digit-no-colon, Takes, goes, ends, alike, gap-end, follow-colon, follow-end, inside-digit, inside-follow}

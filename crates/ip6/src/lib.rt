@@ -4,38 +4,18 @@
 // An address so far is the first count of its groups, with zeros behind them. "::" counts as one group, a zero; gap counts the groups up to
 // and with it, and is 0 while it has not come.
 use exact::Scan;
+use hex::hex_value;
 ghost use mathlib.Core.Path.{_≡_};
 ghost use Prim.Native.Nat.{ℕ, _+_, _^_, _<_};
 ghost use lib.ListN.{length};
 ghost use Rattle.exact.specs.Claim.{Claim};
 ghost use Rattle.exact.specs.Ended.{Ended};
 ghost use Rattle.exact.specs.Machine.{run};
-ghost use Rattle.ip6.specs.Address.{hexOf, Address, Ending};
+ghost use Rattle.ip6.specs.Address.{Address, Ending};
 ghost use Rattle.ip6.specs.Machine.{start, digits, behind, step};
 ghost use Rattle.ip6.specs.ScannedAddress.{toldAddress, Unused};
 ghost use Rattle.ip6.specs.Partial.{Sized, sofar, gatheredOf, spread};
 ghost use Rattle.ip6.specs.Answer.{scanOf, From, Closed};
-
-// A bit for each byte from "0" to "f", the lowest for "0": set where the byte is a hex digit.
-const DIGITS: u64 = 0x7E0000007E03FF;
-
-// The value of a hex digit, in either case; 16 for any other byte. A digit's value is its low four bits, and a letter's 9 more. Bits tell
-// whether it is one: between digits and letters a branch would be guessed wrong half the time.
-fn hex_value(c: u8) -> u8
-    ensures { λ r. ⌜ r ≡ hexOf c ⌝ }
-{
-    if c < b'0' {
-        return 16;
-    }
-    let i = (c - b'0') as u64;
-    if 55 <= i {
-        return 16;
-    }
-    if (DIGITS >> i) % 2 == 0 {
-        return 16;
-    }
-    c % 16 + c / 64 * 9
-}
 
 // What a scan of an address finds. The groups are those of an accepted address, and 0 where none is accepted.
 pub struct Scanned {

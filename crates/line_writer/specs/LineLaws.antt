@@ -21,9 +21,9 @@ use Rattle.address_block.specs.AddressBlockLaws.{address-fits, made-again}
 use Rattle.header.specs.Line.{TcpLine, Ip6Address, Line}
 use Rattle.fields.specs.Facts.{longest-tcp4, longest-tcp6}
 use Rattle.draft.specs.Decimals.{decimal-text}
-use Rattle.line_writer.specs.Addresses.{octetsText, groupsText, groupsOf}
+use Rattle.address_text.specs.Addresses.{octetsText, groupsText, groupsOf}
 use Rattle.line_writer.specs.Written.{hasForm, tcpText, lineText, writtenLine}
-use Rattle.line_writer.specs.Texts.{octets-text, ip6-text}
+use Rattle.address_text.specs.Texts.{octets-text, ip6-text}
 
 -- the address at the front of an array
 module _ (n : ℕ) (fits : n ≤ 108) (a : List ℕ) (size : length a ≡ 108) where

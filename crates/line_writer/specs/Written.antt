@@ -14,7 +14,7 @@ use Rattle.record.specs.Records.{Clean, Sized}
 use Rattle.unused.specs.Unused.{cleanTest}
 use Rattle.answer.specs.Answers.{WriteAnswer, wrote, refuses}
 use Rattle.draft.specs.Numeral.{decimalText}
-use Rattle.line_writer.specs.Addresses.{ip4Text, ip6Text}
+use Rattle.address_text.specs.Addresses.{ip4Text, ip6Text}
 
 -- "The version 1 writer carries IPv4 stream, IPv6 stream and unspecified"
 pub data HasForm : Kind → Type 0 where

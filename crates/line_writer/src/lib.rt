@@ -1,4 +1,5 @@
 // The version 1 writer (document 01, "The text line"). No public function has a `requires`.
+use address_text::push_address;
 use answer::Fault;
 use answer::Written;
 use answer::is_written;
@@ -6,10 +7,7 @@ use draft::Draft;
 use draft::empty;
 use draft::push;
 use draft::push_decimal;
-use draft::push_decimals;
-use draft::push_hexes;
 use draft::push_word;
-use exact::number;
 use lent::put;
 use record::Kind;
 use record::Record;
@@ -17,64 +15,12 @@ use record::Transport;
 use unused::clean;
 ghost use mathlib.Core.Path.{_≡_};
 ghost use mathlib.Core.List.{[]};
-ghost use lib.ListN.{length, take};
+ghost use lib.ListN.{length};
 ghost use Rattle.draft.specs.Drafts.{draftOf, appended};
 ghost use Rattle.answer.specs.Answers.{toldWritten, outputAfter};
-ghost use Rattle.line_writer.specs.Addresses.{octetsText, groupsText, groupsOf, addressText};
+ghost use Rattle.address_text.specs.Addresses.{addressText};
 ghost use Rattle.line_writer.specs.Written.{hasForm, tcpText, writtenLine, lineAnswer};
 ghost use Rattle.line_writer.specs.Demand.{Means, ReadsBack};
-
-// IPv4 text: four decimals with dots.
-fn push_octets(draft: Draft, octets: [u16; 4]) -> Draft
-    ensures { λ r. ⌜ r ≡ appended draft (octetsText octets) ⌝ }
-{
-    push_decimals(draft, b'.', &octets)
-}
-
-// IPv6 text: eight groups with colons.
-fn push_groups(draft: Draft, groups: [u16; 8]) -> Draft
-    ensures { λ r. ⌜ r ≡ appended draft (groupsText groups) ⌝ }
-{
-    push_hexes(draft, b':', &groups)
-}
-
-// A byte as a number.
-fn wide(byte: u8) -> u16
-    ensures { λ r. ⌜ r ≡ byte ⌝ }
-{
-    byte as u16
-}
-
-// The octets of the IPv4 address that a record holds.
-fn octets_of(held: [u8; 108]) -> [u16; 4]
-    ensures { λ r. ⌜ r ≡ take 4 held ⌝ }
-{
-    [wide(held[0]), wide(held[1]), wide(held[2]), wide(held[3])]
-}
-
-// The groups of the IPv6 address that a record holds.
-fn groups_of(held: [u8; 108]) -> [u16; 8]
-    ensures { λ r. ⌜ r ≡ groupsOf (take 16 held) ⌝ }
-{
-    let mut groups = [0u16; 8];
-    let mut i: usize = 0;
-    while i < 8 {
-        groups[i] = number(held[i + i], held[i + i + 1]);
-        i += 1;
-    }
-    groups
-}
-
-// The address that a record holds: of IPv6 if six, else of IPv4.
-fn push_address(draft: Draft, six: bool, held: [u8; 108]) -> Draft
-    ensures { λ r. ⌜ r ≡ appended draft (addressText six held) ⌝ }
-{
-    if six {
-        push_groups(draft, groups_of(held))
-    } else {
-        push_octets(draft, octets_of(held))
-    }
-}
 
 // A TCP line: 6 + 4 + 1 + 39 + 1 + 39 + 1 + 5 + 1 + 5 + 2 = 104 bytes at most.
 fn tcp_line(word: &[u8], six: bool, record: Record) -> Draft

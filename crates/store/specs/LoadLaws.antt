@@ -9,7 +9,7 @@ use lib.ListN.{length, drop, getD}
 use Rattle.record.specs.declared.Kind.{Kind}
 use Rattle.record.specs.Kinds.{blockLength}
 use Rattle.address_block.specs.AddressBlock.{blockRecord}
-use Rattle.store.specs.Stored.{kindOf}
+use Rattle.kind_code.specs.Codes.{kindOf}
 use Rattle.store.specs.Loading.{loads, noRecord, hasMark, hasVersion, loadKind, loadAnswer}
 
 module _ (s : List ℕ) where

@@ -17,7 +17,7 @@ use Rattle.store.specs.declared.Flaw.the-variants.{Mark, Version, Code, 
 use Rattle.store.specs.declared.Outcome.{Outcome}
 use Rattle.store.specs.declared.Outcome.the-variants.{Accepted, Refused}
 use Rattle.store.specs.declared.Loaded.{Loaded}
-use Rattle.store.specs.Stored.{kindOf}
+use Rattle.kind_code.specs.Codes.{kindOf}
 
 -- "15, 16, 17, 18: stored form: mark, version, kind code, length"
 abbrev pub flawNumber : Flaw → ℕ

@@ -23,10 +23,11 @@ use Rattle.address_block.specs.AddressBlock.{blockRecord}
 use Rattle.address_block.specs.AddressBlockLaws.{block-size, record-again, block-again, block-clean, block-sized}
 use Rattle.answer.specs.Answers.{WriteAnswer, wrote, refuses, outputAfter}
 use Rattle.answer.specs.OutputLaws.{written-front}
-use Rattle.store.specs.Stored.{kindOf, stored, storeAnswer}
+use Rattle.kind_code.specs.Codes.{kindOf}
+use Rattle.store.specs.Stored.{stored, storeAnswer}
 use Rattle.store.specs.Loading.{LoadAnswer, loads, noRecord, loadedRecord, hasMark, hasVersion, loadKind, loadAnswer}
 use Rattle.store.specs.Meaning.{Means, unused, too-short, written, LoadsBack, Form, LoadMeans, loaded, refused}
-use Rattle.store.specs.Codes.{code-kind, kind-code}
+use Rattle.kind_code.specs.CodeLaws.{code-kind, kind-code}
 use Rattle.store.specs.LoadLaws.{answer-accepted}
 
 pub stored-length : (r : Record) → Sized r → length (stored r) ≡ 6 + blockLength (r .kind)

@@ -5,11 +5,12 @@ use address_block::put_addresses;
 use answer::Fault;
 use answer::Written;
 use answer::is_written;
+use kind_code::code_of;
+use kind_code::kind_of;
 use lent::put;
 use record::Family;
 use record::Kind;
 use record::Record;
-use record::Transport;
 use record::blank;
 use record::block_length;
 use unused::clean;
@@ -18,7 +19,8 @@ ghost use Prim.Native.Nat.{_≤_};
 ghost use lib.ListN.{length};
 ghost use Rattle.record.specs.KnownFamily.{toldFamily};
 ghost use Rattle.answer.specs.Answers.{toldWritten, outputAfter};
-ghost use Rattle.store.specs.Stored.{codeOf, kindOf, stored, storeAnswer};
+ghost use Rattle.kind_code.specs.Codes.{codeOf, kindOf};
+ghost use Rattle.store.specs.Stored.{stored, storeAnswer};
 ghost use Rattle.store.specs.Loading.{flawNumber, toldLoaded, loadedRecord, noRecord, hasMark, hasVersion, loadAnswer};
 ghost use Rattle.store.specs.Meaning.{Means, LoadsBack, LoadMeans};
 
@@ -51,45 +53,6 @@ pub fn flaw_number(flaw: Flaw) -> u8
         Flaw::Version => 16,
         Flaw::Code => 17,
         Flaw::Length => 18,
-    }
-}
-
-// The code of a kind.
-pub fn code_of(kind: Kind) -> u8
-    ensures { λ r. ⌜ r ≡ codeOf kind ⌝ }
-{
-    match kind {
-        Kind::Local => 0x00,
-        Kind::Unspecified => 0x01,
-        Kind::Ip4(t) => match t {
-            Transport::Stream => 0x11,
-            Transport::Datagram => 0x12,
-        },
-        Kind::Ip6(t) => match t {
-            Transport::Stream => 0x21,
-            Transport::Datagram => 0x22,
-        },
-        Kind::Unix(t) => match t {
-            Transport::Stream => 0x31,
-            Transport::Datagram => 0x32,
-        },
-    }
-}
-
-// The kind of a code.
-pub fn kind_of(code: u8) -> Family
-    ensures { λ r. ⌜ toldFamily r ≡ kindOf code ⌝ }
-{
-    match code {
-        0x00 => Family::Known(Kind::Local),
-        0x01 => Family::Known(Kind::Unspecified),
-        0x11 => Family::Known(Kind::Ip4(Transport::Stream)),
-        0x12 => Family::Known(Kind::Ip4(Transport::Datagram)),
-        0x21 => Family::Known(Kind::Ip6(Transport::Stream)),
-        0x22 => Family::Known(Kind::Ip6(Transport::Datagram)),
-        0x31 => Family::Known(Kind::Unix(Transport::Stream)),
-        0x32 => Family::Known(Kind::Unix(Transport::Datagram)),
-        _ => Family::Unknown,
     }
 }
 

@@ -7,6 +7,5 @@ pub mod Region
 pub mod Whole
 pub mod Test
 pub mod Heads
-pub mod Put
 pub mod Count
 pub mod CountLaws

@@ -9,11 +9,9 @@ ghost use Rattle.exact.specs.Valueless.{Valueless};
 ghost use Rattle.exact.specs.Scans.{told};
 ghost use Rattle.tlv.specs.Tlv.{WellFormed, Filled};
 ghost use Rattle.tlv.specs.RegionVerdict.{good, judge};
-ghost use Rattle.tlv.specs.Put.{tlvPlaced};
 ghost use Rattle.tlv.specs.Count.{Counts};
 use exact::Scan;
 use exact::number;
-use lent::put;
 
 // How many TLVs of a type an area has.
 pub enum Count {
@@ -103,21 +101,5 @@ pub fn count_of(area: &[u8], wanted: u8) -> Count
         Count::Tlvs(count)
     } else {
         Count::IllFormed
-    }
-}
-
-// Puts one TLV at this place of the output. Where it does not fit, or its value has more than 65,535 bytes, the output stays as it is.
-pub fn put_tlv(tlv_type: u8, value: &[u8], out: &mut [u8], at: usize)
-    ensures { λ _. ⌜ now (out .exit) ≡ tlvPlaced «tlv_type» (now (value .entry)) at (now (out .entry)) ⌝ }
-{
-    let size = value.len();
-    if size < 65536 {
-        if at <= out.len() {
-            if 3 + size <= out.len() - at {
-                let head = [tlv_type, (size / 256) as u8, (size % 256) as u8];
-                put(&head, out, at);
-                put(value, out, at + 3);
-            }
-        }
     }
 }

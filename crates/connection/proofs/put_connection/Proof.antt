@@ -7,7 +7,7 @@ use Rattle.exact.specs.Network.{network}
 use Rattle.record.specs.Records.{held}
 use Rattle.record.specs.HeldLaws.{held-length}
 use Rattle.lent.specs.Placed.{placed}
-use Rattle.store.specs.Stored.{codeOf}
+use Rattle.kind_code.specs.Codes.{codeOf}
 use Rattle.connection.proofs.Parts.{five-parts}
 use borrow.Author.Needs.{needs}
 use Rattle.connection.proofs.put_connection.Statement.{statement}

@@ -5,8 +5,8 @@ use Prim.Native.Nat.{ℕ, _+_, _-_, _^_, _≤_, _<_}
 use native.Mathlib.Omega.{arith}
 use lib.ListN.{length, getD}
 use Rattle.exact.specs.declared.Scan.{Scan}
-use Rattle.ip6.specs.Address.{hexOf}
-use Rattle.ip6.specs.Hex.{hex-most}
+use Rattle.hex.specs.Hex.{hexOf}
+use Rattle.hex.specs.HexLaws.{hex-most}
 use Rattle.ip6.specs.Machine.{digits, behind, colon, gap}
 use Rattle.ip6.specs.Partial.{Partial, sofar, Sized, gatheredOf}
 use Rattle.ip6.specs.Answer.{From}
@@ -23,7 +23,7 @@ use Rattle.ip6.proofs.group.Reads as group-reads
 use Rattle.ip6.proofs.group.Kinds as group-kinds
 use Rattle.ip6.proofs.+colon+group.Lts-group as group-lts
 use Rattle.ip6.proofs.finished.Reads as finished-reads
-use Rattle.ip6.proofs.hex_value.Reads as hex-value-reads
+use Rattle.hex.proofs.hex_value.Reads as hex-value-reads
 use Rattle.ip6.proofs.+colon+group.{statement}
 use Rattle.ip6.proofs.+colon+group.Tie.{close}
 

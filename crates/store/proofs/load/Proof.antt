@@ -15,7 +15,7 @@ use Rattle.address_block.specs.AddressBlock.{blockRecord}
 use Rattle.address_block.specs.AddressBlockLaws.{address-fits, port-fits}
 use Rattle.store.specs.declared.Outcome.the-variants.{Accepted}
 use Rattle.store.specs.declared.Loaded.{Loaded}
-use Rattle.store.specs.Stored.{kindOf}
+use Rattle.kind_code.specs.Codes.{kindOf}
 use Rattle.store.specs.Loading.{LoadAnswer, loads, toldLoaded, loadedRecord, hasMark, hasVersion, loadAnswer}
 use Rattle.store.specs.Meaning.{LoadMeans}
 use Rattle.store.specs.LoadLaws.{answer-short, answer-mark, answer-version, answer-code, answer-length, answer-accepted}

@@ -17,7 +17,8 @@ use Rattle.lent.specs.PlacedLaws.{placed-then, placed-start}
 use Rattle.record.proofs.InMemory.{in-memory}
 use Rattle.answer.specs.Answers.{WriteAnswer, toldWritten, outputAfter}
 use Rattle.answer.specs.OutputLaws.{output-refused, is-wrote, output-written}
-use Rattle.store.specs.Stored.{mark, formVersion, codeOf, stored, storeAnswer}
+use Rattle.kind_code.specs.Codes.{codeOf}
+use Rattle.store.specs.Stored.{mark, formVersion, stored, storeAnswer}
 use Rattle.store.specs.Meaning.{Means, LoadsBack}
 use Rattle.store.specs.RoundTrip.{stored-length, answer-means, store-written, loads-back}
 use Rattle.store.proofs.store.Statement.{statement}

@@ -1,0 +1,15 @@
+-- The text goes by the family, as `addressText` does.
+use borrow.Author.Needs.{needs}
+use Rattle.address_text.proofs.push_address.Statement.{statement}
+use Rattle.address_text.proofs.push_address.Tie as tie
+
+returns : tie.Need-returns
+returns c = rw (c .push-groups .ensures, c .before .groups-of .ensures, c .before .before .if1 .taken)
+
+returns-2 : tie.Need-returns-2
+returns-2 c = rw (c .push-octets .ensures, c .before .octets-of .ensures, c .before .before .if1 .left)
+
+pub push-address-spec : {M : Type 1} → statement M
+push-address-spec =
+    tie.close
+    (tie.spec (λ c κs. search needs) (λ c κs. search needs) (λ c κs. search needs) (λ c κs. search needs) returns returns-2)

@@ -1,0 +1,4 @@
+pub mod Addresses
+pub mod AddressLaws
+pub mod Texts
+pub mod Form

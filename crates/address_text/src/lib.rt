@@ -1,0 +1,61 @@
+// An address as version 1 text (document 01, "The text line"). No public function has a `requires`.
+use draft::Draft;
+use draft::push_decimals;
+use draft::push_hexes;
+use exact::number;
+ghost use mathlib.Core.Path.{_≡_};
+ghost use lib.ListN.{take};
+ghost use Rattle.draft.specs.Drafts.{appended};
+ghost use Rattle.address_text.specs.Addresses.{octetsText, groupsText, groupsOf, addressText};
+
+// IPv4 text: four decimals with dots.
+fn push_octets(draft: Draft, octets: [u16; 4]) -> Draft
+    ensures { λ r. ⌜ r ≡ appended draft (octetsText octets) ⌝ }
+{
+    push_decimals(draft, b'.', &octets)
+}
+
+// IPv6 text: eight groups with colons.
+fn push_groups(draft: Draft, groups: [u16; 8]) -> Draft
+    ensures { λ r. ⌜ r ≡ appended draft (groupsText groups) ⌝ }
+{
+    push_hexes(draft, b':', &groups)
+}
+
+// A byte as a number.
+fn wide(byte: u8) -> u16
+    ensures { λ r. ⌜ r ≡ byte ⌝ }
+{
+    byte as u16
+}
+
+// The octets of the IPv4 address that a record holds.
+fn octets_of(held: [u8; 108]) -> [u16; 4]
+    ensures { λ r. ⌜ r ≡ take 4 held ⌝ }
+{
+    [wide(held[0]), wide(held[1]), wide(held[2]), wide(held[3])]
+}
+
+// The groups of the IPv6 address that a record holds.
+fn groups_of(held: [u8; 108]) -> [u16; 8]
+    ensures { λ r. ⌜ r ≡ groupsOf (take 16 held) ⌝ }
+{
+    let mut groups = [0u16; 8];
+    let mut i: usize = 0;
+    while i < 8 {
+        groups[i] = number(held[i + i], held[i + i + 1]);
+        i += 1;
+    }
+    groups
+}
+
+// The address that a record holds: of IPv6 if six, else of IPv4.
+pub fn push_address(draft: Draft, six: bool, held: [u8; 108]) -> Draft
+    ensures { λ r. ⌜ r ≡ appended draft (addressText six held) ⌝ }
+{
+    if six {
+        push_groups(draft, groups_of(held))
+    } else {
+        push_octets(draft, octets_of(held))
+    }
+}

@@ -1,0 +1,46 @@
+// The kind codes of the stored form and of C connections. No public function has a `requires`.
+use record::Family;
+use record::Kind;
+use record::Transport;
+ghost use mathlib.Core.Path.{_≡_};
+ghost use Rattle.record.specs.KnownFamily.{toldFamily};
+ghost use Rattle.kind_code.specs.Codes.{codeOf, kindOf};
+
+// The code of a kind.
+pub fn code_of(kind: Kind) -> u8
+    ensures { λ r. ⌜ r ≡ codeOf kind ⌝ }
+{
+    match kind {
+        Kind::Local => 0x00,
+        Kind::Unspecified => 0x01,
+        Kind::Ip4(t) => match t {
+            Transport::Stream => 0x11,
+            Transport::Datagram => 0x12,
+        },
+        Kind::Ip6(t) => match t {
+            Transport::Stream => 0x21,
+            Transport::Datagram => 0x22,
+        },
+        Kind::Unix(t) => match t {
+            Transport::Stream => 0x31,
+            Transport::Datagram => 0x32,
+        },
+    }
+}
+
+// The kind of a code.
+pub fn kind_of(code: u8) -> Family
+    ensures { λ r. ⌜ toldFamily r ≡ kindOf code ⌝ }
+{
+    match code {
+        0x00 => Family::Known(Kind::Local),
+        0x01 => Family::Known(Kind::Unspecified),
+        0x11 => Family::Known(Kind::Ip4(Transport::Stream)),
+        0x12 => Family::Known(Kind::Ip4(Transport::Datagram)),
+        0x21 => Family::Known(Kind::Ip6(Transport::Stream)),
+        0x22 => Family::Known(Kind::Ip6(Transport::Datagram)),
+        0x31 => Family::Known(Kind::Unix(Transport::Stream)),
+        0x32 => Family::Known(Kind::Unix(Transport::Datagram)),
+        _ => Family::Unknown,
+    }
+}
