@@ -19,8 +19,8 @@ use Rattle.answer.specs.Answers.{WriteAnswer, wrote, areaOf, toldVerdict}
 use Rattle.reader.specs.Read.{Reads}
 use Rattle.reader.specs.Area.{areaBy, readArea}
 use Rattle.block_writer.specs.Demand.{ReadsBack}
-use Rattle.walker.specs.Walk.{Shows}
-use Rattle.walker.specs.Laws.{walk-shows}
+use Rattle.tlv_step.specs.Walk.{Shows}
+use Rattle.tlv_step.specs.Laws.{walk-shows}
 
 -- the area of an accepted header is the one that the reading gives
 area-read : (s : List ℕ) (w : Verdict) (r : Reading) (h : Header) (n : ℕ) → toldVerdict s w r ≡ accepted h n → areaBy w (r .record .kind) s ≡ h .area

@@ -7,7 +7,7 @@ use lib.ListN.{length}
 use Rattle.exact.specs.Pick.{pick}
 use Rattle.lookup.specs.declared.Examined.{Examined}
 use Rattle.lookup.specs.Lookup.{Lookup, toldLookup, LooksUp}
-use Rattle.walker.specs.Step.{Step, shown, end, refused, startOf, lengthOf, placeAfter}
+use Rattle.tlv_step.specs.Step.{Step, shown, end, refused, startOf, lengthOf, placeAfter}
 use Rattle.numbers.specs.declared.Told.{Told}
 use Rattle.lent.specs.Buffers.{toldIn}
 use Rattle.numbers.specs.Numbers.{numbersSize, lookupNumber}

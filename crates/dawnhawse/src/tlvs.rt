@@ -3,12 +3,12 @@ use numbers::NUMBERS;
 use numbers::Told;
 use numbers::lookup_number;
 use numbers::put_numbers;
-use walker::Shown;
+use tlv_step::Shown;
 ghost use mathlib.Core.Path.{_≡_};
 ghost use Prim.Native.Nat.{_+_, _≤_};
 ghost use lib.ListN.{drop};
 ghost use Rattle.tlv.specs.Tlv.{WellFormed};
-ghost use Rattle.walker.specs.Step.{toldStep, headAt, stepAt, startOf, lengthOf};
+ghost use Rattle.tlv_step.specs.Step.{toldStep, headAt, stepAt, startOf, lengthOf};
 ghost use Rattle.dawnhawse.specs.TlvInterface.{LookedUp, stepTold, Stepped};
 
 // Looks for the first TLV of a type in a TLV area, of which at most as many TLVs are examined as the limit says. With room for 4 numbers
@@ -98,5 +98,5 @@ pub extern "C" fn dawnhawse_next(area: &[u8], at: usize, numbers: &mut [u64]) ->
     ensures { λ r. ⌜ Stepped at (headAt (now (area .entry)) at) (now (numbers .entry)) r (now (numbers .exit))
         × (WellFormed (drop at (now (area .entry))) → Stepped at (stepAt (now (area .entry)) at) (now (numbers .entry)) r (now (numbers .exit))) ⌝ }
 {
-    put_step(walker::head_at(area, at), at, area.len(), numbers)
+    put_step(tlv_step::head_at(area, at), at, area.len(), numbers)
 }

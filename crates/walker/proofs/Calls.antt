@@ -30,16 +30,16 @@ use denote.Triple.Statement.{Contract}
 use denote.Triple.Entry.{Vals}
 use denote.Triple.Spec.{tripleOf}
 use denote.Triple.Clauses.{ensured, lasts}
-use Rattle.walker.specs.Step.{Step, toldStep, stepAt, ValuePart, placeAfter, within}
+use Rattle.tlv_step.specs.Step.{Step, toldStep, stepAt, ValuePart, placeAfter, within}
 use Rattle.walker.specs.declared.Walker.{Walker}
-use Rattle.walker.specs.declared.Shown.{Shown}
-use Rattle.walker.proofs.Within.{within-step}
+use Rattle.tlv_step.specs.declared.Shown.{Shown}
+use Rattle.tlv_step.proofs.Within.{within-step}
 use Rattle.walker.proofs.Walker as T
 use Rattle.walker.proofs.Walker.Laws as T′
-use Rattle.walker.proofs.Shown as S
-use Rattle.walker.proofs.step_at as step-at
-use Rattle.walker.proofs.value_of as value-of
-use Rattle.walker.proofs.place_of as place-of
+use Rattle.tlv_step.proofs.Shown as S
+use Rattle.tlv_step.proofs.step_at as step-at
+use Rattle.tlv_step.proofs.value_of as value-of
+use Rattle.tlv_step.proofs.place_of as place-of
 
 -- what each callee says of its result, and what is said of a step
 module _ (d : Walker) where

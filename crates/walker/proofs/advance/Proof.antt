@@ -46,25 +46,25 @@ use denote.Triple.Walked.{says, Stays, stay-ref, walkOf, goes-ref, Walks, ends-a
 use denote.Triple.Clauses.{ensured}
 use Rattle.walker.specs.declared.Walker.{Walker}
 use Rattle.walker.specs.declared.Showing.{Showing}
-use Rattle.walker.specs.declared.Shown.{Shown}
+use Rattle.tlv_step.specs.declared.Shown.{Shown}
 use Rattle.walker.proofs.Walker as T
 use Rattle.walker.proofs.Walker.Laws as T′
 use Rattle.walker.proofs.Showing as U
 use Rattle.walker.proofs.Showing.Laws as U′
-use Rattle.walker.proofs.Shown as S
-use Rattle.walker.proofs.Shown.Laws as S′
-use Rattle.walker.proofs.step_at as step-at
-use Rattle.walker.proofs.step_at.Symbol as step-at-def
-use Rattle.walker.proofs.step_at.Symbol.{name as #walker·step-at}
-use Rattle.walker.proofs.step_at.Met as step-at-thm
-use Rattle.walker.proofs.value_of as value-of
-use Rattle.walker.proofs.value_of.Symbol as value-of-def
-use Rattle.walker.proofs.value_of.Symbol.{name as #walker·value-of}
-use Rattle.walker.proofs.value_of.Met as value-of-thm
-use Rattle.walker.proofs.place_of as place-of
-use Rattle.walker.proofs.place_of.Symbol as place-of-def
-use Rattle.walker.proofs.place_of.Symbol.{name as #walker·place-of}
-use Rattle.walker.proofs.place_of.Met as place-of-thm
+use Rattle.tlv_step.proofs.Shown as S
+use Rattle.tlv_step.proofs.Shown.Laws as S′
+use Rattle.tlv_step.proofs.step_at as step-at
+use Rattle.tlv_step.proofs.step_at.Symbol as step-at-def
+use Rattle.tlv_step.proofs.step_at.Symbol.{name as #tlv-step·step-at}
+use Rattle.tlv_step.proofs.step_at.Met as step-at-thm
+use Rattle.tlv_step.proofs.value_of as value-of
+use Rattle.tlv_step.proofs.value_of.Symbol as value-of-def
+use Rattle.tlv_step.proofs.value_of.Symbol.{name as #tlv-step·value-of}
+use Rattle.tlv_step.proofs.value_of.Met as value-of-thm
+use Rattle.tlv_step.proofs.place_of as place-of
+use Rattle.tlv_step.proofs.place_of.Symbol as place-of-def
+use Rattle.tlv_step.proofs.place_of.Symbol.{name as #tlv-step·place-of}
+use Rattle.tlv_step.proofs.place_of.Met as place-of-thm
 use Rattle.walker.proofs.Calls as calls
 use Rattle.walker.proofs.Calls.{Told, Part, Place, Said, StepAt, ValueOf, PlaceOf}
 use Rattle.walker.proofs.advance.Key.{name as #walker·advance}
@@ -162,7 +162,7 @@ module _ {M : Type 1} (𝓤 : URA M) (H : Heap 𝓤) (A : Atoms 𝓤) (W : Given
       says ! (e .0, e .1, refl, e .2) $
       move ! (3 ∷ 4 ∷ []) $ join ! $ frame ! $ move ! (1 ∷ 2 ∷ []) $ feqI ! (List Val) (vptr b o ∷ []) (vptr b o ∷ []) refl $ fjoin3 ! $ nothing ! $ move ! (1 ∷ 0 ∷ []) $ fjoin ! $ done !
 
-  module _ (C : Calls 𝓤 H) (Λ : Loops 𝓤 H) (fm : FmC 𝓤 H (W .laws) C) (known-step : Triple 𝓤 (C #walker·step-at) (StepAt 𝓤 H A at-mem run)) (known-value : Triple 𝓤 (C #walker·value-of) (ValueOf 𝓤 H A at-mem run)) (known-place : Triple 𝓤 (C #walker·place-of) (PlaceOf 𝓤 H A at-mem run)) where
+  module _ (C : Calls 𝓤 H) (Λ : Loops 𝓤 H) (fm : FmC 𝓤 H (W .laws) C) (known-step : Triple 𝓤 (C #tlv-step·step-at) (StepAt 𝓤 H A at-mem run)) (known-value : Triple 𝓤 (C #tlv-step·value-of) (ValueOf 𝓤 H A at-mem run)) (known-place : Triple 𝓤 (C #tlv-step·place-of) (PlaceOf 𝓤 H A at-mem run)) where
     walk : ent 𝓤 (onEntry 𝓤 H A advance.signature (κ, (κ′, tt)) (q, (q′, tt)) x at) (WpFn 𝓤 H C Λ code.function (vptr b o ∷ []) Post)
     walk =
         qed W ((‵ (flft κ q) ⊛ ‵ (flft κ′ q′) ⊛ ‵ ftrue) ∷ ‵ (owns (MutRef (named 0) κ (B κ′) ∷ []) x at) ∷ []) ∵ enter ! C Λ code.function (vptr b o ∷ []) _ $
@@ -223,13 +223,13 @@ module _ {M : Type 1} (𝓤 : URA M) (H : Heap 𝓤) (A : Atoms 𝓤) (W : Given
         keep ! (0 ∷ 1 ∷ 2 ∷ 3 ∷ 4 ∷ []) $ by ! (exits r p n (machs u₁ u₂) (calls.said d r p n e f g)))))))))))))))))))))))))))))))
 
 module _ {M : Type 1} (𝓤 : URA M) (H : Heap 𝓤) (A : Atoms 𝓤) (W : Given 𝓤 H A) (at-mem : Memory → SProp 𝓤) (run : Routine → Fun 𝓤) where
-  advance-walks : (C : Calls 𝓤 H) (Λ : Loops 𝓤 H) → FmC 𝓤 H (W .laws) C → Triple 𝓤 (C #walker·step-at) (StepAt 𝓤 H A at-mem run) → Triple 𝓤 (C #walker·value-of) (ValueOf 𝓤 H A at-mem run) → Triple 𝓤 (C #walker·place-of) (PlaceOf 𝓤 H A at-mem run)
+  advance-walks : (C : Calls 𝓤 H) (Λ : Loops 𝓤 H) → FmC 𝓤 H (W .laws) C → Triple 𝓤 (C #tlv-step·step-at) (StepAt 𝓤 H A at-mem run) → Triple 𝓤 (C #tlv-step·value-of) (ValueOf 𝓤 H A at-mem run) → Triple 𝓤 (C #tlv-step·place-of) (PlaceOf 𝓤 H A at-mem run)
       → Walks 𝓤 H A advance.ended stayed (WpFn 𝓤 H C Λ code.function) (advance.clauses 𝓤 H A at-mem run)
   advance-walks C Λ fm known-step known-value known-place = walked 𝓤 H A advance.ended stayed (advance.clauses 𝓤 H A at-mem run) (WpFn 𝓤 H C Λ code.function) (λ κs. (ptr-vals, tt)) (λ κs. (mut-tells (named 0) (κs .0) (B (κs .1 .0)), tt))
       (λ κs qs bounds a g are. via 𝓤 _ (fst∗ 𝓤 _ (emp 𝓤)) (walk 𝓤 H A W at-mem run (κs .0) (κs .1 .0) (qs .0) (qs .1 .0) bounds (a .0 .ptr .0) (a .0 .ptr .1) (a .0 .name) (a .0 .now) C Λ fm known-step known-value known-place))
 
 advance-meets : {M : Type 1} (𝓤 : URA M) (H : Heap 𝓤) (A : Atoms 𝓤) (W : Given 𝓤 H A) (at-mem : Memory → SProp 𝓤) (run : Routine → Fun 𝓤) (𝓣 : Tables 𝓤 H)
-    → Triple 𝓤 (𝓣 .C #walker·step-at) (StepAt 𝓤 H A at-mem run) → Triple 𝓤 (𝓣 .C #walker·value-of) (ValueOf 𝓤 H A at-mem run) → Triple 𝓤 (𝓣 .C #walker·place-of) (PlaceOf 𝓤 H A at-mem run)
+    → Triple 𝓤 (𝓣 .C #tlv-step·step-at) (StepAt 𝓤 H A at-mem run) → Triple 𝓤 (𝓣 .C #tlv-step·value-of) (ValueOf 𝓤 H A at-mem run) → Triple 𝓤 (𝓣 .C #tlv-step·place-of) (PlaceOf 𝓤 H A at-mem run)
     → Meets 𝓤 H A advance.signature (WpFn 𝓤 H (𝓣 .C) (𝓣 .Λ) code.function) (advance.spec 𝓤 H A at-mem run)
 advance-meets 𝓤 H A W at-mem run 𝓣 known-step known-value known-place = walk-meets 𝓤 H A advance.ended stayed W (goes-ref 𝓤 H A W 2 0 tt behind, tt) (advance.clauses 𝓤 H A at-mem run) (WpFn 𝓤 H (𝓣 .C) (𝓣 .Λ) code.function) (WpFn-mono 𝓤 H (W .laws) 𝓣 code.function)
     (advance-walks 𝓤 H A W at-mem run (𝓣 .C) (𝓣 .Λ) (fmOf 𝓤 H (W .laws) 𝓣) known-step known-value known-place)
@@ -240,6 +240,6 @@ advance-spec 𝓤 H 𝓜 𝓖 𝓡 =
     entered 𝓤 H (tripleOf 𝓤 H (𝓖 .A) advance.signature (advance.spec 𝓤 H (𝓖 .A) (𝓜 .mem) (𝓡 .run)))
     (tables 𝓤 H 𝓜 𝓡 code.env .C) (tables 𝓤 H 𝓜 𝓡 code.env .Λ) #walker·advance code.function (code.unfolded 𝓤 H 𝓜 𝓡)
     (advance-meets 𝓤 H (𝓖 .A) (givenOf 𝓤 H 𝓜 𝓖) (𝓜 .mem) (𝓡 .run) (tablesOf 𝓤 H 𝓜 (tables 𝓤 H 𝓜 𝓡 code.env))
-    (cited 𝓤 H (StepAt 𝓤 H (𝓖 .A) (𝓜 .mem) (𝓡 .run)) 𝓜 𝓡 code.env #walker·step-at step-at-def.routine code.calls-walker·step-at (step-at-thm.met 𝓤 H 𝓜 𝓖 𝓡))
-    (cited 𝓤 H (ValueOf 𝓤 H (𝓖 .A) (𝓜 .mem) (𝓡 .run)) 𝓜 𝓡 code.env #walker·value-of value-of-def.routine code.calls-walker·value-of (value-of-thm.met 𝓤 H 𝓜 𝓖 𝓡))
-    (cited 𝓤 H (PlaceOf 𝓤 H (𝓖 .A) (𝓜 .mem) (𝓡 .run)) 𝓜 𝓡 code.env #walker·place-of place-of-def.routine code.calls-walker·place-of (place-of-thm.met 𝓤 H 𝓜 𝓖 𝓡)))
+    (cited 𝓤 H (StepAt 𝓤 H (𝓖 .A) (𝓜 .mem) (𝓡 .run)) 𝓜 𝓡 code.env #tlv-step·step-at step-at-def.routine code.calls-tlv-step·step-at (step-at-thm.met 𝓤 H 𝓜 𝓖 𝓡))
+    (cited 𝓤 H (ValueOf 𝓤 H (𝓖 .A) (𝓜 .mem) (𝓡 .run)) 𝓜 𝓡 code.env #tlv-step·value-of value-of-def.routine code.calls-tlv-step·value-of (value-of-thm.met 𝓤 H 𝓜 𝓖 𝓡))
+    (cited 𝓤 H (PlaceOf 𝓤 H (𝓖 .A) (𝓜 .mem) (𝓡 .run)) 𝓜 𝓡 code.env #tlv-step·place-of place-of-def.routine code.calls-tlv-step·place-of (place-of-thm.met 𝓤 H 𝓜 𝓖 𝓡)))

@@ -48,8 +48,8 @@ use Rattle.walker.proofs.Walker as T
 use Rattle.walker.proofs.Walker.Laws as T′
 use Rattle.walker.proofs.Stepped as U
 use Rattle.walker.proofs.Stepped.Laws as U′
-use Rattle.walker.proofs.Shown as S
-use Rattle.walker.proofs.Shown.Laws as S′
+use Rattle.tlv_step.proofs.Shown as S
+use Rattle.tlv_step.proofs.Shown.Laws as S′
 use Rattle.walker.proofs.step as step
 use Rattle.walker.proofs.step.Symbol as step-def
 use Rattle.walker.proofs.step.Symbol.{name as #walker·step}

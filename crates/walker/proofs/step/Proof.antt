@@ -40,25 +40,25 @@ use denote.Exit.{yes}
 use denote.Triple.Clauses.{ensured}
 use Rattle.walker.specs.declared.Walker.{Walker}
 use Rattle.walker.specs.declared.Stepped.{Stepped}
-use Rattle.walker.specs.declared.Shown.{Shown}
+use Rattle.tlv_step.specs.declared.Shown.{Shown}
 use Rattle.walker.proofs.Walker as T
 use Rattle.walker.proofs.Walker.Laws as T′
 use Rattle.walker.proofs.Stepped as U
 use Rattle.walker.proofs.Stepped.Laws as U′
-use Rattle.walker.proofs.Shown as S
-use Rattle.walker.proofs.Shown.Laws as S′
-use Rattle.walker.proofs.step_at as step-at
-use Rattle.walker.proofs.step_at.Symbol as step-at-def
-use Rattle.walker.proofs.step_at.Symbol.{name as #walker·step-at}
-use Rattle.walker.proofs.step_at.Met as step-at-thm
-use Rattle.walker.proofs.value_of as value-of
-use Rattle.walker.proofs.value_of.Symbol as value-of-def
-use Rattle.walker.proofs.value_of.Symbol.{name as #walker·value-of}
-use Rattle.walker.proofs.value_of.Met as value-of-thm
-use Rattle.walker.proofs.place_of as place-of
-use Rattle.walker.proofs.place_of.Symbol as place-of-def
-use Rattle.walker.proofs.place_of.Symbol.{name as #walker·place-of}
-use Rattle.walker.proofs.place_of.Met as place-of-thm
+use Rattle.tlv_step.proofs.Shown as S
+use Rattle.tlv_step.proofs.Shown.Laws as S′
+use Rattle.tlv_step.proofs.step_at as step-at
+use Rattle.tlv_step.proofs.step_at.Symbol as step-at-def
+use Rattle.tlv_step.proofs.step_at.Symbol.{name as #tlv-step·step-at}
+use Rattle.tlv_step.proofs.step_at.Met as step-at-thm
+use Rattle.tlv_step.proofs.value_of as value-of
+use Rattle.tlv_step.proofs.value_of.Symbol as value-of-def
+use Rattle.tlv_step.proofs.value_of.Symbol.{name as #tlv-step·value-of}
+use Rattle.tlv_step.proofs.value_of.Met as value-of-thm
+use Rattle.tlv_step.proofs.place_of as place-of
+use Rattle.tlv_step.proofs.place_of.Symbol as place-of-def
+use Rattle.tlv_step.proofs.place_of.Symbol.{name as #tlv-step·place-of}
+use Rattle.tlv_step.proofs.place_of.Met as place-of-thm
 use Rattle.walker.proofs.Calls as calls
 use Rattle.walker.proofs.Calls.{Told, Part, Place, Said, StepAt, ValueOf, PlaceOf}
 use Rattle.walker.proofs.step.Key.{name as #walker·step}
@@ -119,7 +119,7 @@ module _ {M : Type 1} (𝓤 : URA M) (H : Heap 𝓤) (A : Atoms 𝓤) (W : Given
       says ! e $
       move ! (1 ∷ []) $ frame ! $ nothing ! $ move ! (2 ∷ 0 ∷ []) $ fjoin ! $ frame ! $ done !
 
-  module _ (C : Calls 𝓤 H) (Λ : Loops 𝓤 H) (fm : FmC 𝓤 H (W .laws) C) (known-step : Triple 𝓤 (C #walker·step-at) (StepAt 𝓤 H A mem run)) (known-value : Triple 𝓤 (C #walker·value-of) (ValueOf 𝓤 H A mem run)) (known-place : Triple 𝓤 (C #walker·place-of) (PlaceOf 𝓤 H A mem run)) where
+  module _ (C : Calls 𝓤 H) (Λ : Loops 𝓤 H) (fm : FmC 𝓤 H (W .laws) C) (known-step : Triple 𝓤 (C #tlv-step·step-at) (StepAt 𝓤 H A mem run)) (known-value : Triple 𝓤 (C #tlv-step·value-of) (ValueOf 𝓤 H A mem run)) (known-place : Triple 𝓤 (C #tlv-step·place-of) (PlaceOf 𝓤 H A mem run)) where
     walk : Holds (hasTy (T′.mir (named 0)) mach) × WT mach → ent 𝓤 (onEntry 𝓤 H A step.signature (κ, tt) (q, tt) (d, tt) (mach ∷ [], tt)) (WpFn 𝓤 H C Λ code.function (mach ∷ []) Post)
     walk wt =
         qed W ((‵ (flft κ q) ⊛ ‵ ftrue) ∷ ‵ (owns (B (κ, tt) ∷ []) (d, tt) (mach ∷ [], tt)) ∷ []) ∵ enter ! C Λ code.function (mach ∷ []) _ $
@@ -165,13 +165,13 @@ module _ {M : Type 1} (𝓤 : URA M) (H : Heap 𝓤) (A : Atoms 𝓤) (W : Given
         by ! (exits r p n (machs u₁ u₂ u₃) (calls.said d r p n e f g)))))))))))))))))))))))))
 
 module _ {M : Type 1} (𝓤 : URA M) (H : Heap 𝓤) (A : Atoms 𝓤) (W : Given 𝓤 H A) (mem : Memory → SProp 𝓤) (run : Routine → Fun 𝓤) where
-  step-walks : (C : Calls 𝓤 H) (Λ : Loops 𝓤 H) → FmC 𝓤 H (W .laws) C → Triple 𝓤 (C #walker·step-at) (StepAt 𝓤 H A mem run) → Triple 𝓤 (C #walker·value-of) (ValueOf 𝓤 H A mem run) → Triple 𝓤 (C #walker·place-of) (PlaceOf 𝓤 H A mem run)
+  step-walks : (C : Calls 𝓤 H) (Λ : Loops 𝓤 H) → FmC 𝓤 H (W .laws) C → Triple 𝓤 (C #tlv-step·step-at) (StepAt 𝓤 H A mem run) → Triple 𝓤 (C #tlv-step·value-of) (ValueOf 𝓤 H A mem run) → Triple 𝓤 (C #tlv-step·place-of) (PlaceOf 𝓤 H A mem run)
       → Walks 𝓤 H A step.ended stayed (WpFn 𝓤 H C Λ code.function) (step.clauses 𝓤 H A mem run)
   step-walks C Λ fm known-step known-value known-place = walked 𝓤 H A step.ended stayed (step.clauses 𝓤 H A mem run) (WpFn 𝓤 H C Λ code.function) (λ κs. (LL.vals (T.the-type (namedLft 1 0 tt κs)) (T′.the-laws (namedLft 1 0 tt κs)), tt)) (λ κs. (LL.tells (T.the-type (namedLft 1 0 tt κs)) (T′.the-laws (namedLft 1 0 tt κs)), tt))
       (λ κs qs bounds a g are. via 𝓤 _ (fst∗ 𝓤 _ (emp 𝓤)) (walk 𝓤 H A W mem run (κs .0) (qs .0) (a .0) C Λ fm known-step known-value known-place (LL.lawful (T.the-type (namedLft 1 0 tt κs)) (T′.the-laws (namedLft 1 0 tt κs)) 𝓤 H A W .typed (a .0) _ (are .0) .0)))
 
 step-meets : {M : Type 1} (𝓤 : URA M) (H : Heap 𝓤) (A : Atoms 𝓤) (W : Given 𝓤 H A) (mem : Memory → SProp 𝓤) (run : Routine → Fun 𝓤) (𝓣 : Tables 𝓤 H)
-    → Triple 𝓤 (𝓣 .C #walker·step-at) (StepAt 𝓤 H A mem run) → Triple 𝓤 (𝓣 .C #walker·value-of) (ValueOf 𝓤 H A mem run) → Triple 𝓤 (𝓣 .C #walker·place-of) (PlaceOf 𝓤 H A mem run)
+    → Triple 𝓤 (𝓣 .C #tlv-step·step-at) (StepAt 𝓤 H A mem run) → Triple 𝓤 (𝓣 .C #tlv-step·value-of) (ValueOf 𝓤 H A mem run) → Triple 𝓤 (𝓣 .C #tlv-step·place-of) (PlaceOf 𝓤 H A mem run)
     → Meets 𝓤 H A step.signature (WpFn 𝓤 H (𝓣 .C) (𝓣 .Λ) code.function) (step.spec 𝓤 H A mem run)
 step-meets 𝓤 H A W mem run 𝓣 known-step known-value known-place = walk-meets 𝓤 H A step.ended stayed W (goes-none 𝓤 H A W 1 B yes (λ κs x f. refl), tt) (step.clauses 𝓤 H A mem run) (WpFn 𝓤 H (𝓣 .C) (𝓣 .Λ) code.function) (WpFn-mono 𝓤 H (W .laws) 𝓣 code.function)
     (step-walks 𝓤 H A W mem run (𝓣 .C) (𝓣 .Λ) (fmOf 𝓤 H (W .laws) 𝓣) known-step known-value known-place)
@@ -182,6 +182,6 @@ step-spec 𝓤 H 𝓜 𝓖 𝓡 =
     entered 𝓤 H (tripleOf 𝓤 H (𝓖 .A) step.signature (step.spec 𝓤 H (𝓖 .A) (𝓜 .mem) (𝓡 .run)))
     (tables 𝓤 H 𝓜 𝓡 code.env .C) (tables 𝓤 H 𝓜 𝓡 code.env .Λ) #walker·step code.function (code.unfolded 𝓤 H 𝓜 𝓡)
     (step-meets 𝓤 H (𝓖 .A) (givenOf 𝓤 H 𝓜 𝓖) (𝓜 .mem) (𝓡 .run) (tablesOf 𝓤 H 𝓜 (tables 𝓤 H 𝓜 𝓡 code.env))
-    (cited 𝓤 H (StepAt 𝓤 H (𝓖 .A) (𝓜 .mem) (𝓡 .run)) 𝓜 𝓡 code.env #walker·step-at step-at-def.routine code.calls-walker·step-at (step-at-thm.met 𝓤 H 𝓜 𝓖 𝓡))
-    (cited 𝓤 H (ValueOf 𝓤 H (𝓖 .A) (𝓜 .mem) (𝓡 .run)) 𝓜 𝓡 code.env #walker·value-of value-of-def.routine code.calls-walker·value-of (value-of-thm.met 𝓤 H 𝓜 𝓖 𝓡))
-    (cited 𝓤 H (PlaceOf 𝓤 H (𝓖 .A) (𝓜 .mem) (𝓡 .run)) 𝓜 𝓡 code.env #walker·place-of place-of-def.routine code.calls-walker·place-of (place-of-thm.met 𝓤 H 𝓜 𝓖 𝓡)))
+    (cited 𝓤 H (StepAt 𝓤 H (𝓖 .A) (𝓜 .mem) (𝓡 .run)) 𝓜 𝓡 code.env #tlv-step·step-at step-at-def.routine code.calls-tlv-step·step-at (step-at-thm.met 𝓤 H 𝓜 𝓖 𝓡))
+    (cited 𝓤 H (ValueOf 𝓤 H (𝓖 .A) (𝓜 .mem) (𝓡 .run)) 𝓜 𝓡 code.env #tlv-step·value-of value-of-def.routine code.calls-tlv-step·value-of (value-of-thm.met 𝓤 H 𝓜 𝓖 𝓡))
+    (cited 𝓤 H (PlaceOf 𝓤 H (𝓖 .A) (𝓜 .mem) (𝓡 .run)) 𝓜 𝓡 code.env #tlv-step·place-of place-of-def.routine code.calls-tlv-step·place-of (place-of-thm.met 𝓤 H 𝓜 𝓖 𝓡)))

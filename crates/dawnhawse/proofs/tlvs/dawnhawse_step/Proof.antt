@@ -3,8 +3,8 @@ use mathlib.Core.Path.{sym, subst}
 use Prim.Native.Nat.{_+_, _≤_}
 use denote.Ref.{now}
 use lib.ListN.{length}
-use Rattle.walker.specs.Step.{Step, startOf, lengthOf}
-use Rattle.walker.specs.Facts.{step-room}
+use Rattle.tlv_step.specs.Step.{Step, startOf, lengthOf}
+use Rattle.tlv_step.specs.Facts.{step-room}
 use Rattle.dawnhawse.specs.TlvInterface.{Stepped}
 use borrow.Author.Needs.{needs}
 use Rattle.dawnhawse.proofs.tlvs.dawnhawse_step.Statement.{statement}

@@ -2,8 +2,8 @@
 use mathlib.Core.Path.{sym, ap, subst}
 use Prim.Native.Nat.{_+_, _≤_}
 use native.Mathlib.Omega.{arith}
-use Rattle.walker.specs.declared.Shown.{Shown}
-use Rattle.walker.specs.Step.{toldStep, startOf, lengthOf}
+use Rattle.tlv_step.specs.declared.Shown.{Shown}
+use Rattle.tlv_step.specs.Step.{toldStep, startOf, lengthOf}
 use Rattle.dawnhawse.specs.TlvInterface.{stepTold}
 use borrow.Author.Needs.{needs}
 use Rattle.dawnhawse.proofs.tlvs.tell_step.Statement.{statement}

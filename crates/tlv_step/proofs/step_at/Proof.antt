@@ -8,9 +8,9 @@ use denote.Ref.{now}
 use lib.ListN.{drop}
 use Rattle.exact.specs.Parser.{tail-all}
 use Rattle.tlv.specs.Test.{wellFormed, tested-is}
-use Rattle.walker.specs.Laws.{refused-stays}
-use Rattle.walker.proofs.step_at.Statement.{statement}
-use Rattle.walker.proofs.step_at.Tie as tie
+use Rattle.tlv_step.specs.Laws.{refused-stays}
+use Rattle.tlv_step.proofs.step_at.Statement.{statement}
+use Rattle.tlv_step.proofs.step_at.Tie as tie
 
 module _ (c : tie.After-well-formed) where
   abbrev area : List ℕ

@@ -5,14 +5,14 @@ use mathlib.Core.List.{List}
 use lib.ListN.{getD, drop}
 use Rattle.tlv.specs.Tlv.{WellFormed}
 use Rattle.tlv.specs.Heads.{sizeAt, size-bytes}
-use Rattle.walker.specs.Step.{Step, shown, headAt, stepAt}
+use Rattle.tlv_step.specs.Step.{Step, shown, headAt, stepAt}
 use native.Mathlib.Omega.{arith}
 use borrow.Author.Needs.{needs}
 use denote.Ref.{now}
-use Rattle.walker.specs.Facts.{head-beyond, head-end, head-cut, head-shown}
-use Rattle.walker.specs.Laws.{step-head}
-use Rattle.walker.proofs.head_at.Statement.{statement}
-use Rattle.walker.proofs.head_at.Tie as tie
+use Rattle.tlv_step.specs.Facts.{head-beyond, head-end, head-cut, head-shown}
+use Rattle.tlv_step.specs.Laws.{step-head}
+use Rattle.tlv_step.proofs.head_at.Statement.{statement}
+use Rattle.tlv_step.proofs.head_at.Tie as tie
 
 -- where what remains is well-formed, that is the step
 step-too : (s : List ℕ) (at : ℕ) (r : Step) → headAt s at ≡ r → (r ≡ headAt s at) × (WellFormed (drop at s) → r ≡ stepAt s at)

@@ -7,10 +7,10 @@ use native.Mathlib.Nat.{add-sub-cancel-left}
 use lib.ListN.{take, drop}
 use borrow.Author.Needs.{needs}
 use denote.Ref.{now}
-use Rattle.walker.specs.Step.{startOf, valueOf}
-use Rattle.walker.proofs.Within.{within-kept, within-lost}
-use Rattle.walker.proofs.value_of.Statement.{statement}
-use Rattle.walker.proofs.value_of.Tie as tie
+use Rattle.tlv_step.specs.Step.{startOf, valueOf}
+use Rattle.tlv_step.proofs.Within.{within-kept, within-lost}
+use Rattle.tlv_step.proofs.value_of.Statement.{statement}
+use Rattle.tlv_step.proofs.value_of.Tie as tie
 
 returns : tie.Need-returns
 returns c =

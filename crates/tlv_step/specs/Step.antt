@@ -8,8 +8,8 @@ use denote.Ref.{RefT, now}
 use Rattle.exact.specs.Pick.{pick}
 use Rattle.tlv.specs.Test.{wellFormed}
 use Rattle.tlv.specs.Heads.{sizeAt}
-use Rattle.walker.specs.declared.Shown.{Shown}
-use Rattle.walker.specs.declared.Shown.the-variants.{Tlv, End, Refused}
+use Rattle.tlv_step.specs.declared.Shown.{Shown}
+use Rattle.tlv_step.specs.declared.Shown.the-variants.{Tlv, End, Refused}
 
 -- "Each step shows the type and the value as the very part of the lent bytes, or the end", or answers a number; the part is told by its start and size
 pub data Step : Type 0 where

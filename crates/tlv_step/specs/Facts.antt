@@ -9,7 +9,7 @@ use lib.ListN.{length, getD, drop}
 use Rattle.exact.specs.Pick.{pick-by}
 use Rattle.tlv.specs.Test.{wellFormed}
 use Rattle.tlv.specs.Heads.{sizeAt}
-use Rattle.walker.specs.Step.{Step, shown, end, refused, headAt, stepAt, startOf, lengthOf}
+use Rattle.tlv_step.specs.Step.{Step, shown, end, refused, headAt, stepAt, startOf, lengthOf}
 
 module _ (s : List ℕ) (at : ℕ) where
   -- ── the TLV at the place ──

@@ -4,9 +4,9 @@ use mathlib.Core.List.{List}
 use Prim.Native.Nat.{ℕ, _+_, _≤_, _<_}
 use borrow.Author.Tests.{le-leb, lt-leb}
 use lib.ListN.{length}
-use Rattle.walker.specs.Step.{Step, end, toldStep, stepAt, startOf, lengthOf, within}
-use Rattle.walker.specs.Facts.{step-room}
-use Rattle.walker.specs.declared.Shown.{Shown}
+use Rattle.tlv_step.specs.Step.{Step, end, toldStep, stepAt, startOf, lengthOf, within}
+use Rattle.tlv_step.specs.Facts.{step-room}
+use Rattle.tlv_step.specs.declared.Shown.{Shown}
 
 module _ (s : List ℕ) where
   kept : (r : Step) → startOf r + lengthOf r ≤ length s → within s r ≡ r

@@ -3,10 +3,10 @@ use mathlib.Core.Path.{sym, ap}
 use native.Mathlib.Omega.{arith}
 use borrow.Author.Needs.{needs}
 use denote.Ref.{now}
-use Rattle.walker.specs.Step.{placeAfter}
-use Rattle.walker.proofs.Within.{within-kept, within-lost}
-use Rattle.walker.proofs.place_of.Statement.{statement}
-use Rattle.walker.proofs.place_of.Tie as tie
+use Rattle.tlv_step.specs.Step.{placeAfter}
+use Rattle.tlv_step.proofs.Within.{within-kept, within-lost}
+use Rattle.tlv_step.proofs.place_of.Statement.{statement}
+use Rattle.tlv_step.proofs.place_of.Tie as tie
 
 returns : tie.Need-returns
 returns c =

@@ -10,9 +10,9 @@ use Rattle.exact.specs.Pick.{pick}
 use Rattle.tlv.specs.Tlv.{Tlv, Area, WellFormed}
 use Rattle.tlv.specs.Test.{wellFormed, well-formed-tested, ill-formed-tested}
 use Rattle.tlv.specs.Heads.{head-type, head-size, head-room, head-value, head-rest}
-use Rattle.walker.specs.Step.{shown, end, refused, headAt, stepAt, valueOf, placeAfter}
-use Rattle.walker.specs.Walk.{Shows}
-use Rattle.walker.specs.Facts.{head-beyond, head-end, head-shown}
+use Rattle.tlv_step.specs.Step.{shown, end, refused, headAt, stepAt, valueOf, placeAfter}
+use Rattle.tlv_step.specs.Walk.{Shows}
+use Rattle.tlv_step.specs.Facts.{head-beyond, head-end, head-shown}
 
 module _ (s : List ℕ) (at : ℕ) where
   -- where what remains is well-formed, the TLV at the place says all

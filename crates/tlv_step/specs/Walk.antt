@@ -4,7 +4,7 @@ use mathlib.Core.List.{List, [], _∷_}
 use Prim.Native.Nat.{ℕ, _+_}
 use lib.ListN.{length}
 use Rattle.tlv.specs.Tlv.{Tlv}
-use Rattle.walker.specs.Step.{shown, end, stepAt, valueOf, placeAfter}
+use Rattle.tlv_step.specs.Step.{shown, end, stepAt, valueOf, placeAfter}
 
 -- the steps from a place on, each from where the one before has left the walker, show these TLVs "in order, each once, then the end";
 -- there the walker stays, so that it is shown again
