@@ -17,7 +17,7 @@ use Rattle.answer.specs.declared.Verdict.the-variants.{Accepted, More, Refused}
 use Rattle.answer.specs.declared.Reading.{Reading}
 use Rattle.answer.specs.Answers.{WriteAnswer, wrote, areaOf, toldVerdict}
 use Rattle.reader.specs.Read.{Reads}
-use Rattle.reader.specs.Area.{areaBy, readArea}
+use Rattle.area.specs.Area.{areaBy, readArea}
 use Rattle.block_writer.specs.Demand.{ReadsBack}
 use Rattle.tlv_step.specs.Walk.{Shows}
 use Rattle.tlv_step.specs.Laws.{walk-shows}

@@ -6,7 +6,7 @@ ghost use mathlib.Core.List.{List};
 ghost use Prim.Native.Nat.{ℕ};
 ghost use Rattle.exact.specs.Claim.{more as moreOf, refused as refusedOf};
 ghost use Rattle.answer.specs.Answers.{numberOf, faultNumber, toldWritten, isWritten};
-ghost use Rattle.answer.specs.Sight.{kindOnly, Sees};
+ghost use Rattle.answer.specs.Sight.{kindOnly, inBytes, Sees};
 
 // The field that holds the first dead byte: document 01's numbers 1 to 9.
 pub enum Refusal {
@@ -136,5 +136,19 @@ pub fn fault_number(fault: Fault) -> u8
         Fault::Area => 12,
         Fault::Size => 13,
         Fault::Room => 14,
+    }
+}
+
+// Whether the addresses stand in the bytes read.
+pub fn in_bytes(verdict: Verdict) -> bool
+    ensures { λ r. ⌜ r ≡ inBytes verdict ⌝ }
+{
+    match verdict {
+        Verdict::Accepted { length: _, version } => version == 2,
+        Verdict::More => false,
+        Verdict::Refused {
+            refusal: _,
+            place: _,
+        } => false,
     }
 }

@@ -19,8 +19,8 @@ use Rattle.answer.specs.declared.Caller.{Caller}
 use Rattle.answer.specs.declared.Seen.{Seen}
 use Rattle.answer.specs.Sight.{callerRecord, inBytes, recordBy, readingOf}
 use Rattle.answer.specs.Answers.{Answers, toldVerdict, bareUnless}
-use Rattle.reader.specs.Area.{areaBy, areaStart, areaEnd}
-use Rattle.reader.specs.AreaLaws.{area-inside, area-part}
+use Rattle.area.specs.Area.{areaBy, areaStart, areaEnd}
+use Rattle.area.specs.AreaLaws.{area-inside, area-part}
 use Rattle.numbers.specs.declared.Told.{Told}
 use Rattle.lent.specs.Buffers.{over, toldIn}
 use Rattle.numbers.specs.Numbers.{numbersSize, toldOf}

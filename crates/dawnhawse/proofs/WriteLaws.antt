@@ -12,7 +12,7 @@ use Rattle.exact.specs.Pick.{pick, pick-by}
 use Rattle.record.specs.declared.Record.{Record}
 use Rattle.answer.specs.declared.Written.{Written}
 use Rattle.answer.specs.Answers.{WriteAnswer, wrote, refuses, toldWritten, outputAfter}
-use Rattle.connection.specs.declared.Asked.{Asked}
+use Rattle.request.specs.declared.Asked.{Asked}
 use Rattle.numbers.specs.Numbers.{numbersSize, roomBeside, writtenNumber, numbersAfter}
 use Rattle.dawnhawse.specs.WriteInterface.{askedAnswer, Writes}
 

@@ -4,7 +4,7 @@ use Prim.Native.Nat.{ℕ}
 use lib.Dec.{leb}
 use lib.ListN.{length}
 use Rattle.exact.specs.Pick.{pick}
-use Rattle.store.specs.Loading.{LoadAnswer, loadedRecord}
+use Rattle.stored_form.specs.Loading.{LoadAnswer, loadedRecord}
 use Rattle.lent.specs.Buffers.{toldIn}
 use Rattle.connection.specs.Connection.{connectionSize, connectionBytes}
 use Rattle.numbers.specs.Numbers.{loadNumber}

@@ -6,7 +6,7 @@ use lib.Dec.{eqb}
 use Rattle.exact.specs.Pick.{pick}
 use Rattle.record.specs.declared.Record.{Record}
 use Rattle.answer.specs.Answers.{WriteAnswer, refuses, outputAfter}
-use Rattle.connection.specs.declared.Asked.{Asked}
+use Rattle.request.specs.declared.Asked.{Asked}
 use Rattle.numbers.specs.Numbers.{writtenNumber, numbersAfter}
 
 -- the number of a request that is refused; else the writer's answer

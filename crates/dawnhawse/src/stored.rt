@@ -1,15 +1,15 @@
 // The stored form, for C callers.
 use connection::CONNECTION;
 use connection::put_record;
-use connection::request;
 use numbers::outcome_number;
 use numbers::room_beside;
 use numbers::tell_written;
+use request::request;
 ghost use mathlib.Core.Path.{_≡_};
 ghost use lib.ListN.{length};
-ghost use Rattle.store.specs.Stored.{stored, storeAnswer};
-ghost use Rattle.store.specs.Loading.{loadAnswer};
-ghost use Rattle.connection.specs.Connection.{request as requestOf};
+ghost use Rattle.stored_form.specs.Stored.{stored, storeAnswer};
+ghost use Rattle.stored_form.specs.Loading.{loadAnswer};
+ghost use Rattle.request.specs.Request.{request as requestOf};
 ghost use Rattle.dawnhawse.specs.WriteInterface.{askedAnswer, Writes};
 ghost use Rattle.numbers.specs.Numbers.{roomBeside};
 ghost use Rattle.dawnhawse.specs.StoreInterface.{loadedNumber, loadedConnection};
@@ -40,7 +40,7 @@ pub extern "C" fn dawnhawse_load(stored: &[u8], connection: &mut [u8]) -> u32
     if connection.len() < CONNECTION {
         return 14;
     }
-    let loaded = store::load(stored);
+    let loaded = load::load(stored);
     let outcome = loaded.outcome;
     let record = loaded.record;
     put_record(record, connection);

@@ -1,12 +1,12 @@
 // The writers of both versions, for C callers.
-use connection::request;
 use numbers::room_beside;
 use numbers::tell_written;
+use request::request;
 ghost use lib.ListN.{length};
 ghost use Rattle.record.specs.declared.Record.{Record};
 ghost use Rattle.line_writer.specs.Written.{lineAnswer, writtenLine};
 ghost use Rattle.block_writer.specs.Written.{blockAnswer, writtenBlock};
-ghost use Rattle.connection.specs.Connection.{request as requestOf};
+ghost use Rattle.request.specs.Request.{request as requestOf};
 ghost use Rattle.dawnhawse.specs.WriteInterface.{askedAnswer, Writes};
 ghost use Rattle.numbers.specs.Numbers.{roomBeside};
 

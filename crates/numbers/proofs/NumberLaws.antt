@@ -12,7 +12,7 @@ use lib.Dec.{eqb}
 use Rattle.exact.specs.Claim as Claim
 use Rattle.record.specs.Kinds.{blockLength}
 use Rattle.answer.specs.declared.Verdict.the-variants.{Accepted}
-use Rattle.reader.specs.Area.{areaEnd}
+use Rattle.area.specs.Area.{areaEnd}
 
 -- ── four stores ──
 pub four-stores : (d : List ℕ) (a b c e : ℕ) → 4 ≤ length d → set (set (set (set d 0 a) 1 b) 2 c) 3 e ≡ over (a ∷ b ∷ c ∷ e ∷ []) d

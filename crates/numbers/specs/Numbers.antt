@@ -8,10 +8,10 @@ use Rattle.record.specs.declared.Kind.{Kind}
 use Rattle.answer.specs.declared.Verdict.{Verdict}
 use Rattle.answer.specs.declared.Verdict.the-variants.{Accepted, More, Refused}
 use Rattle.answer.specs.Answers.{numberOf, WriteAnswer, wrote, refuses}
-use Rattle.reader.specs.Area.{areaStart, areaEnd}
+use Rattle.area.specs.Area.{areaStart, areaEnd}
 use Rattle.numbers.specs.declared.Told.{Told}
 use Rattle.lent.specs.Buffers.{toldIn}
-use Rattle.store.specs.Loading.{LoadAnswer, loads, noRecord}
+use Rattle.stored_form.specs.Loading.{LoadAnswer, loads, noRecord}
 use Rattle.lookup.specs.Lookup.{Outcome, found, absent, gaveUp, refused as noArea}
 
 -- the C functions tell four numbers

@@ -4,14 +4,14 @@ use answer::Written;
 use answer::fault_number;
 use lookup::Answer;
 use record::Kind;
-use store::Outcome;
-use store::flaw_number;
+use stored_form::Outcome;
+use stored_form::flaw_number;
 ghost use mathlib.Core.Path.{_≡_};
 ghost use mathlib.Core.List.{[], _∷_};
 ghost use Rattle.record.specs.declared.Record.{Record};
 ghost use Rattle.lent.specs.Buffers.{toldIn};
 ghost use Rattle.answer.specs.Answers.{toldWritten};
-ghost use Rattle.store.specs.Loading.{toldOutcome as toldLoaded};
+ghost use Rattle.stored_form.specs.Loading.{toldOutcome as toldLoaded};
 ghost use Rattle.lookup.specs.Lookup.{toldOutcome};
 ghost use Rattle.numbers.specs.Numbers.{numbersSize, toldOf, roomBeside, writtenNumber, numbersAfter, loadNumber, lookupNumber};
 
@@ -43,7 +43,7 @@ pub fn put_numbers(out: &mut [u64], first: u64, second: u64, start: u64, size: u
 pub fn tell(verdict: Verdict, kind: Kind, size: usize) -> Told
     ensures { λ r. ⌜ r ≡ toldOf verdict kind size ⌝ }
 {
-    let span = reader::area_span(verdict, kind, size);
+    let span = area::area_span(verdict, kind, size);
     let area = span.end - span.start;
     match verdict {
         Verdict::Accepted { length, version } => Told {

@@ -1,7 +1,7 @@
 -- Each outcome's number is that of what is loaded, whatever the record.
 use mathlib.Core.Path.{sym, ap, _∙_}
-use Rattle.store.specs.declared.Outcome.{Outcome}
-use Rattle.store.specs.Loading.{toldOutcome}
+use Rattle.stored_form.specs.declared.Outcome.{Outcome}
+use Rattle.stored_form.specs.Loading.{toldOutcome}
 use Rattle.numbers.specs.Numbers.{loadNumber}
 use borrow.Author.Needs.{needs}
 use Rattle.numbers.proofs.outcome_number.Statement.{statement}

@@ -3,7 +3,7 @@ use native.Mathlib.Omega.{arith}
 use mathlib.Core.Path.{sym, ap, ap₂, _∙_}
 use Prim.Native.Nat.{ℕ, _-_}
 use Rattle.answer.specs.declared.Verdict.{Verdict}
-use Rattle.reader.specs.Area.{areaStart, areaEnd}
+use Rattle.area.specs.Area.{areaStart, areaEnd}
 use Rattle.numbers.specs.declared.Told.{Told}
 use Rattle.numbers.specs.Numbers.{toldOf}
 use Rattle.numbers.proofs.NumberLaws.{end-within-header}

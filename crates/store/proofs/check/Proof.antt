@@ -11,8 +11,8 @@ use Rattle.unused.specs.Unused.{cleanTest}
 use Rattle.address_block.specs.AddressBlockLaws.{address-fits, port-fits}
 use Rattle.record.proofs.InMemory.{in-memory}
 use Rattle.answer.specs.Answers.{wrote}
-use Rattle.store.specs.Stored.{stored}
-use Rattle.store.specs.RoundTrip.{stored-length}
+use Rattle.stored_form.specs.Stored.{stored}
+use Rattle.stored_form.specs.RoundTrip.{stored-length}
 use Rattle.store.proofs.check.Statement.{statement}
 use Rattle.store.proofs.check.Tie as tie
 

@@ -18,9 +18,9 @@ use Rattle.record.proofs.InMemory.{in-memory}
 use Rattle.answer.specs.Answers.{WriteAnswer, toldWritten, outputAfter}
 use Rattle.answer.specs.OutputLaws.{output-refused, is-wrote, output-written}
 use Rattle.kind_code.specs.Codes.{codeOf}
-use Rattle.store.specs.Stored.{mark, formVersion, stored, storeAnswer}
-use Rattle.store.specs.Meaning.{Means, LoadsBack}
-use Rattle.store.specs.RoundTrip.{stored-length, answer-means, store-written, loads-back}
+use Rattle.stored_form.specs.Stored.{mark, formVersion, stored, storeAnswer}
+use Rattle.stored_form.specs.Meaning.{Means, LoadsBack}
+use Rattle.stored_form.specs.RoundTrip.{stored-length, answer-means, store-written, loads-back}
 use Rattle.store.proofs.store.Statement.{statement}
 use Rattle.store.proofs.store.Tie as tie
 

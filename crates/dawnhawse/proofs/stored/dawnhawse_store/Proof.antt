@@ -4,7 +4,7 @@ use denote.Ref.{now}
 use Rattle.exact.specs.Pick.{pick-by}
 use Rattle.record.specs.declared.Record.{Record}
 use Rattle.unused.specs.Unused.{cleanTest}
-use Rattle.store.specs.Stored.{stored, storeAnswer}
+use Rattle.stored_form.specs.Stored.{stored, storeAnswer}
 use Rattle.dawnhawse.proofs.WriteLaws.{Within, fits-at-last, refused, passed-on, part-inside, part-size}
 use borrow.Author.Needs.{needs}
 use Rattle.dawnhawse.proofs.stored.dawnhawse_store.Statement.{statement}
