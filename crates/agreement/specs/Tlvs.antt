@@ -5,7 +5,6 @@ use mathlib.Core.List.{List, _++_}
 use Prim.Native.Nat.{ℕ}
 use native.Mathlib.Omega.{arith}
 use lib.ListN.{take}
-use Rattle.exact.specs.Claim as Claim
 use Rattle.exact.specs.Claim.{accepted}
 use Rattle.tlv.specs.Tlv.{Tlv, Area}
 use Rattle.record.specs.declared.Record.{Record}

@@ -1,10 +1,10 @@
 -- What is left of a request, and of what a writer wrote into the part of the output that it may use.
 use mathlib.Core.Path.{_≡_, sym, ap, _∙_, subst}
-use mathlib.Core.Bool.{Bool, true, false}
+use mathlib.Core.Bool.{Bool}
 use mathlib.Core.List.{List, _++_, append-assoc}
 use Prim.Native.Nat.{ℕ, _≤_}
 use native.Mathlib.Omega.{arith}
-use lib.Dec.{eqb, leb}
+use lib.Dec.{leb}
 use lib.ListN.{length, take, drop, take-append-drop, length-take}
 use lib.Seq.{drop-append-le, length-take-le}
 use borrow.Author.Tests.{eq-eqb, ne-eqb, leb-true}

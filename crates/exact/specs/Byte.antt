@@ -7,7 +7,7 @@ use native.Mathlib.Omega.{arith}
 use lib.Dec.{ltb}
 use lib.ListN.{length, replicate, length-replicate}
 use borrow.Author.Tests.{ltb-true, ltb-false}
-use Rattle.exact.specs.Claim.{Verdict, accepted, more, AllBytes}
+use Rattle.exact.specs.Claim.{Verdict, accepted, AllBytes}
 use Rattle.exact.specs.Field.{Exact}
 use Rattle.exact.specs.MachineLaws.{machine-exact, Sound}
 use Rattle.exact.specs.Machine.{leaf, Move, go, done, dead, run}

@@ -6,7 +6,7 @@ use mathlib.Core.Logic.{_⊎_, inl, inr, ⊎-elim, _↔_}
 use Prim.Native.Nat.{ℕ}
 use native.Mathlib.Omega.{arith}
 use lib.Dec.{eqb}
-use Rattle.exact.specs.Claim.{Verdict, accepted, more, refused, AllBytes, Heads, Live}
+use Rattle.exact.specs.Claim.{Verdict, more, AllBytes, Heads, Live}
 use Rattle.exact.specs.Ended.{Ended}
 use Rattle.exact.specs.Field.{Opens}
 use Rattle.exact.specs.Machine.{leaf}

@@ -9,7 +9,6 @@ use Rattle.exact.specs.Pick.{pick}
 use Rattle.record.specs.declared.Kind.{Kind}
 use Rattle.lent.specs.Buffers.{over}
 use lib.Dec.{eqb}
-use Rattle.exact.specs.Claim as Claim
 use Rattle.record.specs.Kinds.{blockLength}
 use Rattle.answer.specs.declared.Verdict.the-variants.{Accepted}
 use Rattle.area.specs.Area.{areaEnd}

@@ -1,8 +1,6 @@
 -- The test is that of `roomBeside`.
 use mathlib.Core.Path.{sym, ap}
 use mathlib.Core.Bool.{Bool}
-use Prim.Native.Nat.{ℕ}
-use native.Mathlib.Omega.{arith}
 use borrow.Author.Tests.{le-leb, lt-leb}
 use Rattle.exact.specs.Pick.{pick}
 use Rattle.numbers.specs.Numbers.{numbersSize}

@@ -3,7 +3,6 @@ use mathlib.Core.Path.{ap, _∙_}
 use native.Mathlib.Omega.{arith}
 use denote.Ref.{now}
 use Rattle.record.specs.declared.Record.{Record}
-use Rattle.stored_form.specs.Loading.{LoadAnswer}
 use Rattle.lent.specs.Buffers.{toldIn}
 use Rattle.lent.specs.BufferLaws.{roomy, cramped}
 use Rattle.connection.specs.Connection.{connectionSize, connectionBytes}
