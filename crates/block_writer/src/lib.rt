@@ -1,5 +1,5 @@
 // The version 2 writer (document 01, "The binary block"). No public function has a `requires`.
-use address_block::put_addresses;
+use address_writer::put_addresses;
 use answer::Fault;
 use answer::Written;
 use answer::is_written;

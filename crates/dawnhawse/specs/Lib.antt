@@ -1,4 +1,3 @@
 pub mod ReadInterface
-pub mod TlvInterface
 pub mod WriteInterface
 pub mod StoreInterface

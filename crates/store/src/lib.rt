@@ -1,5 +1,5 @@
 // The writer of the stored form, version 1 (document 01, "Stored form, version 1"). No public function has a `requires`.
-use address_block::put_addresses;
+use address_writer::put_addresses;
 use answer::Fault;
 use answer::Written;
 use answer::is_written;

@@ -1,0 +1,37 @@
+-- `lookup` ensures what is examined, and it is told where there is room.
+use mathlib.Core.Path.{_∙_}
+use native.Mathlib.Omega.{arith}
+use denote.Ref.{now}
+use Rattle.numbers.specs.Numbers.{numbersSize}
+use Rattle.lent.specs.BufferLaws.{roomy, cramped}
+use borrow.Author.Needs.{needs}
+use Rattle.tlv_interface.proofs.look_up.Statement.{statement}
+use Rattle.tlv_interface.proofs.look_up.Tie as tie
+
+returns : tie.Need-returns
+returns c =
+    let looked = c .before in
+    let numbers = now (looked .before .before .before .args .numbers) in
+    record {
+      examined = looked .lookup .result;
+      looks = looked .lookup .ensures;
+      answers = cramped numbersSize numbers _ 14 (omega arith);
+      left = cramped numbersSize numbers _ numbers (omega arith);
+    }
+
+returns-2 : tie.Need-returns-2
+returns-2 c =
+    let put = c .before .before .before in
+    let looked = put .before .before .before in
+    let numbers = now (looked .before .before .before .args .numbers) in
+    record {
+      examined = looked .lookup .result;
+      looks = looked .lookup .ensures;
+      answers = c .lookup-number .ensures ∙ roomy numbersSize numbers _ 14 (omega arith);
+      left = put .put-numbers .ensures;
+    }
+
+pub look-up-spec : {M : Type 1} → statement M
+look-up-spec =
+    tie.close
+    (tie.spec (λ c κs. search needs) returns (λ c κs. search needs) (λ c κs. search needs) (λ c. search needs) returns-2)
