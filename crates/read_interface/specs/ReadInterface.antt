@@ -1,4 +1,5 @@
 -- What `dawnhawse_read` answers and leaves in the buffers that are lent to it: document 01's answers as numbers and bytes.
+use mathlib.Core.Path.{_≡_}
 use mathlib.Core.Bool.{Bool, false}
 use mathlib.Core.List.{List, [], _∷_}
 use Prim.Native.Nat.{ℕ, _-_}
@@ -48,3 +49,8 @@ readNumbers v numbers connection = pick (roomFor numbers connection) (over (numb
 abbrev pub readConnection : Claim.Verdict Header → List ℕ → List ℕ → List ℕ
 readConnection v numbers connection =
     pick (roomFor numbers connection) (over (connectionBytes (spokenRecord v)) connection) connection
+
+-- what `dawnhawse_read` leaves of a verdict: its answer, the numbers and the connection
+abbrev pub ReadTold : Claim.Verdict Header → (numbers connection : List ℕ) → ℕ → (numbersLeft connectionLeft : List ℕ) → Type 0
+ReadTold v numbers connection answer numbersLeft connectionLeft =
+    (answer ≡ readAnswer v numbers connection) × (numbersLeft ≡ readNumbers v numbers connection) × (connectionLeft ≡ readConnection v numbers connection)

@@ -8,8 +8,8 @@ use Rattle.lent.specs.BufferLaws.{roomy, cramped}
 use Rattle.connection.specs.Connection.{connectionSize, connectionBytes}
 use Rattle.numbers.specs.Numbers.{loadNumber}
 use borrow.Author.Needs.{needs}
-use Rattle.dawnhawse.proofs.stored.dawnhawse_load.Statement.{statement}
-use Rattle.dawnhawse.proofs.stored.dawnhawse_load.Tie as tie
+use Rattle.read_interface.proofs.load.Statement.{statement}
+use Rattle.read_interface.proofs.load.Tie as tie
 
 returns : tie.Need-returns
 returns c =
@@ -26,7 +26,7 @@ returns-2 c =
       connected .put-record .ensures ∙ ap (λ (r : Record). toldIn connectionSize (connectionBytes r) connection) (found .1),
     )
 
-pub dawnhawse-load-spec : {M : Type 1} → statement M
-dawnhawse-load-spec =
+pub load-spec : {M : Type 1} → statement M
+load-spec =
     tie.close
     (tie.spec returns (λ c κs. search needs) (λ c κs. search needs) (λ c κs. search needs) (λ c. search needs) returns-2)

@@ -5,10 +5,10 @@ use Rattle.exact.specs.Pick.{pick-by}
 use Rattle.record.specs.declared.Record.{Record}
 use Rattle.unused.specs.Unused.{cleanTest}
 use Rattle.stored_form.specs.Stored.{stored, storeAnswer}
-use Rattle.dawnhawse.proofs.WriteLaws.{Within, fits-at-last, refused, passed-on, part-inside, part-size}
+use Rattle.write_interface.proofs.WriteLaws.{Within, fits-at-last, refused, passed-on, part-inside, part-size}
 use borrow.Author.Needs.{needs}
-use Rattle.dawnhawse.proofs.stored.dawnhawse_store.Statement.{statement}
-use Rattle.dawnhawse.proofs.stored.dawnhawse_store.Tie as tie
+use Rattle.write_interface.proofs.store.Statement.{statement}
+use Rattle.write_interface.proofs.store.Tie as tie
 
 within : (r : Record) (room : ℕ) → Within room (storeAnswer r room)
 within r room = pick-by (Within room) (cleanTest r) (λ t. fits-at-last _ room 14) (λ t. tt)
@@ -40,8 +40,8 @@ returns-2 c =
     (beside .room-beside .result) (written .store .last .1 .0) (asked .request .ensures) (beside .before .if1 .left) (beside .room-beside .ensures)
     (written .store .ensures .0) (written .store .ensures .1) (told .tell-written .ensures)
 
-pub dawnhawse-store-spec : {M : Type 1} → statement M
-dawnhawse-store-spec =
+pub store-spec : {M : Type 1} → statement M
+store-spec =
     tie.close
     (tie.spec (λ c κs. search needs) returns (λ c κs. search needs) slice-relend-prefix slice-aggregate (λ c κs. search needs) (λ c κs. search needs)
     (λ c. search needs) (λ c. search needs) returns-2)

@@ -9,10 +9,10 @@ use lib.Dec.{ltb}
 use lib.ListN.{length}
 use Rattle.block_writer.specs.Areas.{areaTest}
 use Rattle.block_writer.specs.Written.{blockOf, blockAnswer, writtenBlock}
-use Rattle.dawnhawse.proofs.WriteLaws.{Within, fits-at-last, refused, passed-on, part-inside, part-size}
+use Rattle.write_interface.proofs.WriteLaws.{Within, fits-at-last, refused, passed-on, part-inside, part-size}
 use borrow.Author.Needs.{needs}
-use Rattle.dawnhawse.proofs.write.dawnhawse_write_v2.Statement.{statement}
-use Rattle.dawnhawse.proofs.write.dawnhawse_write_v2.Tie as tie
+use Rattle.write_interface.proofs.write_v2.Statement.{statement}
+use Rattle.write_interface.proofs.write_v2.Tie as tie
 
 within : (area : List ℕ) (r : Record) (room : ℕ) → Within room (blockAnswer r area room)
 within area r room =
@@ -50,8 +50,8 @@ returns-2 c =
     (beside .room-beside .result) (written .write-block .last .1 .1 .0) (asked .request .ensures) (beside .before .if1 .left) (beside .room-beside .ensures)
     (written .write-block .ensures .0) (written .write-block .ensures .1) (told .tell-written .ensures)
 
-pub dawnhawse-write-v2-spec : {M : Type 1} → statement M
-dawnhawse-write-v2-spec =
+pub write-v2-spec : {M : Type 1} → statement M
+write-v2-spec =
     tie.close
     (tie.spec (λ c κs. search needs) returns (λ c κs. search needs) slice-relend-prefix slice-aggregate (λ c κs. search needs) (λ c κs. search needs)
     (λ c. search needs) (λ c. search needs) returns-2)

@@ -26,7 +26,7 @@ use Rattle.lent.specs.Buffers.{over, toldIn}
 use Rattle.numbers.specs.Numbers.{numbersSize, toldOf}
 use Rattle.lent.specs.BufferLaws.{roomy}
 use Rattle.connection.specs.Connection.{connectionSize, connectionBytes}
-use Rattle.dawnhawse.specs.ReadInterface.{answerNumber, numbersOf, spokenRecord, roomFor, readAnswer, readNumbers, readConnection}
+use Rattle.read_interface.specs.ReadInterface.{answerNumber, numbersOf, spokenRecord, roomFor, readAnswer, readNumbers, readConnection, ReadTold}
 
 -- ── the record ──
 spoken-by : (s : List ℕ) (w : Verdict) (r : Reading) (v : Claim.Verdict Header) → toldVerdict s w r ≡ v → bareUnless w r → spokenRecord v ≡ r .record
@@ -88,8 +88,8 @@ short-connection numbers connection h k = simp (le-leb numbersSize (length numbe
 
 -- ── what `dawnhawse_read` answers and leaves ──
 module _ (v : Claim.Verdict Header) (numbers connection : List ℕ) where
-  abbrev pub Left : ℕ → List ℕ → List ℕ → Type 0
-  Left answer n c = (answer ≡ readAnswer v numbers connection) × (n ≡ readNumbers v numbers connection) × (c ≡ readConnection v numbers connection)
+  abbrev Left : ℕ → List ℕ → List ℕ → Type 0
+  Left = ReadTold v numbers connection
 
   pub untouched : roomFor numbers connection ≡ false → Left 14 numbers connection
   untouched e = (

@@ -14,7 +14,7 @@ use Rattle.answer.specs.declared.Written.{Written}
 use Rattle.answer.specs.Answers.{WriteAnswer, wrote, refuses, toldWritten, outputAfter}
 use Rattle.request.specs.declared.Asked.{Asked}
 use Rattle.numbers.specs.Numbers.{numbersSize, roomBeside, writtenNumber, numbersAfter}
-use Rattle.dawnhawse.specs.WriteInterface.{askedAnswer, Writes}
+use Rattle.write_interface.specs.WriteInterface.{askedAnswer, Writes}
 
 -- ── what a writer leaves of a part of the output ──
 -- what is written fits the room

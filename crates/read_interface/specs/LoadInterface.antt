@@ -1,4 +1,5 @@
 -- What the C function that loads a connection answers and leaves (document 01, "Stored form, version 1").
+use mathlib.Core.Path.{_≡_}
 use mathlib.Core.List.{List}
 use Prim.Native.Nat.{ℕ}
 use lib.Dec.{leb}
@@ -15,3 +16,7 @@ loadedNumber l connection = pick (leb connectionSize (length connection)) (loadN
 
 abbrev pub loadedConnection : LoadAnswer → List ℕ → List ℕ
 loadedConnection l connection = toldIn connectionSize (connectionBytes (loadedRecord l)) connection
+
+-- what `dawnhawse_load` leaves of the reader's answer
+abbrev pub LoadTold : LoadAnswer → (connection : List ℕ) → ℕ → (connectionLeft : List ℕ) → Type 0
+LoadTold l connection answer connectionLeft = (answer ≡ loadedNumber l connection) × (connectionLeft ≡ loadedConnection l connection)

@@ -5,10 +5,10 @@ use Rattle.exact.specs.Pick.{pick-by}
 use Rattle.record.specs.declared.Record.{Record}
 use Rattle.unused.specs.Unused.{cleanTest}
 use Rattle.line_writer.specs.Written.{hasForm, lineAnswer, writtenLine}
-use Rattle.dawnhawse.proofs.WriteLaws.{Within, fits-at-last, refused, passed-on, part-inside, part-size}
+use Rattle.write_interface.proofs.WriteLaws.{Within, fits-at-last, refused, passed-on, part-inside, part-size}
 use borrow.Author.Needs.{needs}
-use Rattle.dawnhawse.proofs.write.dawnhawse_write_v1.Statement.{statement}
-use Rattle.dawnhawse.proofs.write.dawnhawse_write_v1.Tie as tie
+use Rattle.write_interface.proofs.write_v1.Statement.{statement}
+use Rattle.write_interface.proofs.write_v1.Tie as tie
 
 within : (r : Record) (room : ℕ) → Within room (lineAnswer r room)
 within r room =
@@ -41,8 +41,8 @@ returns-2 c =
     (beside .room-beside .result) (written .write-line .last .1 .0) (asked .request .ensures) (beside .before .if1 .left) (beside .room-beside .ensures)
     (written .write-line .ensures .0) (written .write-line .ensures .1) (told .tell-written .ensures)
 
-pub dawnhawse-write-v1-spec : {M : Type 1} → statement M
-dawnhawse-write-v1-spec =
+pub write-v1-spec : {M : Type 1} → statement M
+write-v1-spec =
     tie.close
     (tie.spec (λ c κs. search needs) returns (λ c κs. search needs) slice-relend-prefix slice-aggregate (λ c κs. search needs) (λ c κs. search needs)
     (λ c. search needs) (λ c. search needs) returns-2)

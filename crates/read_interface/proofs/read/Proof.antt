@@ -2,10 +2,10 @@
 use native.Mathlib.Omega.{arith}
 use denote.Ref.{now}
 use Rattle.fields.specs.Exactness.{verdict}
-use Rattle.dawnhawse.proofs.ReadLaws.{few-numbers, short-connection, untouched, written}
+use Rattle.read_interface.proofs.ReadLaws.{few-numbers, short-connection, untouched, written}
 use borrow.Author.Needs.{needs}
-use Rattle.dawnhawse.proofs.read.dawnhawse_read.Statement.{statement}
-use Rattle.dawnhawse.proofs.read.dawnhawse_read.Tie as tie
+use Rattle.read_interface.proofs.read.Statement.{statement}
+use Rattle.read_interface.proofs.read.Tie as tie
 
 returns : tie.Need-returns
 returns c =
@@ -28,8 +28,8 @@ returns-3 c =
     written (verdict (now (x .bytes))) (now (x .numbers)) (now (x .connection)) (seen .see .result) (told .tell .result) (now (x .bytes)) _ _
     (omega arith) (omega arith) (seen .see .ensures .0 .answers) (told .tell .ensures) (put .put-numbers .ensures) (connected .put-seen .ensures)
 
-pub dawnhawse-read-spec : {M : Type 1} → statement M
-dawnhawse-read-spec =
+pub read-spec : {M : Type 1} → statement M
+read-spec =
     tie.close
     (tie.spec returns returns-2 (λ c κs. search needs) (λ c κs. search needs) (λ c κs. search needs) (λ c κs. search needs) (λ c. search needs)
     (λ c. search needs) returns-3)

@@ -3,11 +3,13 @@ use mathlib.Core.Path.{_≡_}
 use mathlib.Core.List.{List}
 use Prim.Native.Nat.{ℕ}
 use lib.Dec.{eqb}
+use lib.ListN.{length}
 use Rattle.exact.specs.Pick.{pick}
 use Rattle.record.specs.declared.Record.{Record}
 use Rattle.answer.specs.Answers.{WriteAnswer, refuses, outputAfter}
 use Rattle.request.specs.declared.Asked.{Asked}
-use Rattle.numbers.specs.Numbers.{writtenNumber, numbersAfter}
+use Rattle.request.specs.Request.{request}
+use Rattle.numbers.specs.Numbers.{roomBeside, writtenNumber, numbersAfter}
 
 -- the number of a request that is refused; else the writer's answer
 abbrev pub askedAnswer : (answerFor : Record → (room : ℕ) → WriteAnswer) → Asked → (room : ℕ) → WriteAnswer
@@ -18,3 +20,9 @@ pub record Writes (w : WriteAnswer) (text output numbers : List ℕ) (answer : �
   pub answers : answer ≡ writtenNumber w
   pub writes : outputLeft ≡ outputAfter w text output
   pub tells : numbersLeft ≡ numbersAfter w numbers
+
+-- what is left of a connection that asks for a writer's text
+abbrev pub WritesAsked : (answerFor : Record → (room : ℕ) → WriteAnswer) (text : Record → List ℕ) (connection output numbers : List ℕ)
+    → ℕ → (outputLeft numbersLeft : List ℕ) → Type 0
+WritesAsked answerFor text connection output numbers =
+    Writes (askedAnswer answerFor (request connection) (roomBeside (length numbers) (length output))) (text (request connection .«record»)) output numbers

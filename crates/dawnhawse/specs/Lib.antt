@@ -1,3 +1,0 @@
-pub mod ReadInterface
-pub mod WriteInterface
-pub mod StoreInterface

@@ -1,0 +1,2 @@
+pub mod ReadInterface
+pub mod LoadInterface

@@ -1,0 +1,54 @@
+// Writing for C callers: a line, a header or a stored record from the bytes of a connection. No public function has a `requires`.
+use numbers::room_beside;
+use numbers::tell_written;
+use request::request;
+ghost use Rattle.record.specs.declared.Record.{Record};
+ghost use Rattle.line_writer.specs.Written.{lineAnswer, writtenLine};
+ghost use Rattle.block_writer.specs.Written.{blockAnswer, writtenBlock};
+ghost use Rattle.stored_form.specs.Stored.{stored, storeAnswer};
+ghost use Rattle.write_interface.specs.WriteInterface.{WritesAsked};
+
+// Writes a connection's version 1 line, and tells its length; or answers why not, and leaves both buffers as they were.
+pub fn write_v1(connection: &[u8], out: &mut [u8], numbers: &mut [u64]) -> u32
+    ensures { λ r. ⌜ WritesAsked lineAnswer writtenLine (now (connection .entry)) (now (out .entry)) (now (numbers .entry)) r (now (out .exit)) (now (numbers .exit)) ⌝ }
+{
+    let asked = request(connection);
+    let number = asked.number;
+    let record = asked.record;
+    if number != 0 {
+        return number;
+    }
+    let room = room_beside(numbers.len(), out.len());
+    tell_written(line_writer::write_line(record, &mut out[..room]), numbers)
+}
+
+// Writes a connection's version 2 header with a TLV area; else as `write_v1`.
+pub fn write_v2(connection: &[u8], area: &[u8], out: &mut [u8], numbers: &mut [u64]) -> u32
+    ensures { λ r. ⌜ WritesAsked (λ (c : Record). blockAnswer c (now (area .entry))) (λ (c : Record). writtenBlock c (now (area .entry))) (now (connection .entry)) (now (out .entry)) (now (numbers .entry)) r (now (out .exit)) (now (numbers .exit)) ⌝ }
+{
+    let asked = request(connection);
+    let number = asked.number;
+    let record = asked.record;
+    if number != 0 {
+        return number;
+    }
+    let room = room_beside(numbers.len(), out.len());
+    tell_written(
+        block_writer::write_block(record, area, &mut out[..room]),
+        numbers,
+    )
+}
+
+// Stores a connection; else as `write_v1`.
+pub fn store(connection: &[u8], out: &mut [u8], numbers: &mut [u64]) -> u32
+    ensures { λ r. ⌜ WritesAsked storeAnswer stored (now (connection .entry)) (now (out .entry)) (now (numbers .entry)) r (now (out .exit)) (now (numbers .exit)) ⌝ }
+{
+    let asked = request(connection);
+    let number = asked.number;
+    let record = asked.record;
+    if number != 0 {
+        return number;
+    }
+    let room = room_beside(numbers.len(), out.len());
+    tell_written(store::store(record, &mut out[..room]), numbers)
+}
