@@ -1,4 +1,4 @@
--- How long the parts of an address block are, and that a record and its address block give each other.
+-- For proofs. How long the parts of an address block are, and that a record and its address block give each other.
 use mathlib.Core.Path.{_≡_, refl, sym, ap, ap₂, _∙_}
 use mathlib.Core.List.{List, [], _∷_, _++_, append-assoc, append-nil}
 use Prim.Native.Nat.{ℕ, zero, suc, _+_, _-_, _/_, _%_, _≤_, _<_}

@@ -7,7 +7,6 @@ use native.Mathlib.Omega.{arith}
 use lib.Dec.{eqb}
 use lib.ListN.{length, take, drop, getD, length-take, length-drop}
 use lib.Seq.{ext-getD, getD-take, getD-drop}
-use borrow.Author.Tests.{eq-eqb, ne-eqb}
 use Rattle.exact.specs.Pick.{pick}
 use Rattle.record.specs.declared.Kind.{Kind}
 use Rattle.record.specs.declared.Kind.the-variants.{Local, Unspecified, Ip4, Ip6, Unix}
@@ -62,23 +61,3 @@ pub area-part : (v : Verdict) (kind : Kind) (s : List ℕ)
 area-part (Accepted n v) kind s = accepted-part n (eqb v 2) kind s
 area-part More kind s = nothing s (16 + blockLength kind)
 area-part (Refused k p) kind s = nothing s (16 + blockLength kind)
-
--- ── as the code finds them ──
-module _ (v : Verdict) (kind : Kind) (size : ℕ) where
-  pub span-none : (w : Verdict) → v ≡ w → areaEnd w kind size ≡ 0 → (0 ≡ areaStart v kind size) × (0 ≡ areaEnd v kind size)
-  span-none w e z = let end : areaEnd v kind size ≡ 0 = ap (λ (x : Verdict). areaEnd x kind size) e ∙ z in (omega arith, sym end)
-
-  pub span-some : (n x y z : ℕ) → v ≡ Accepted n x → x ≡ 2 → (blockLength kind ≡ 0 → ⊥) → y ≡ min n size → z ≡ min (16 + blockLength kind) y
-      → (z ≡ areaStart v kind size) × (y ≡ areaEnd v kind size)
-  span-some n x y z e two some end start =
-      let here : areaEnd v kind size ≡ min n size =
-      ap (λ (w : Verdict). areaEnd w kind size) e ∙ simp (eq-eqb x 2 two, ne-eqb (blockLength kind) 0 some)
-      in
-      (start ∙ ap (λ (m : ℕ). min (16 + blockLength kind) m) (end ∙ sym here), end ∙ sym here)
-
-module _ (kind : Kind) (size n v : ℕ) where
-  pub old-version : (v ≡ 2 → ⊥) → areaEnd (Accepted n v) kind size ≡ 0
-  old-version h = simp (ne-eqb v 2 h)
-
-  pub no-block : v ≡ 2 → blockLength kind ≡ 0 → areaEnd (Accepted n v) kind size ≡ 0
-  no-block e z = simp (eq-eqb v 2 e, eq-eqb (blockLength kind) 0 z)

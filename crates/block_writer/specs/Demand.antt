@@ -16,8 +16,8 @@ use Rattle.tlv.specs.Tlv.{Tlv, Area as AreaOf}
 use Rattle.tlv.specs.Laws.{area-one}
 use Rattle.record.specs.declared.Record.{Record}
 use Rattle.record.specs.Records.{Clean, Sized}
-use Rattle.unused.specs.Unused.{cleanTest}
-use Rattle.unused.specs.UnusedLaws.{clean-test}
+use Rattle.clean.specs.Unused.{cleanTest}
+use Rattle.clean.specs.UnusedLaws.{clean-test}
 use Rattle.header.specs.Header.{Header, Whole}
 use Rattle.header.specs.Demand.{Judges}
 use Rattle.fields.specs.BlockFields.{blocked}

@@ -12,7 +12,7 @@ use Rattle.record.specs.declared.Kind.the-variants.{Local, Unspecified, Ip4, Ip
 use Rattle.record.specs.declared.Record.{Record}
 use Rattle.record.specs.Kinds.{byteOf}
 use Rattle.record.specs.Records.{Clean, Sized}
-use Rattle.unused.specs.Unused.{cleanTest}
+use Rattle.clean.specs.Unused.{cleanTest}
 use Rattle.address_block.specs.AddressBlock.{addressBlock}
 use Rattle.header.specs.Block.{signature, LOCAL, PROXY, HasAddresses}
 use Rattle.answer.specs.Answers.{WriteAnswer, wrote, refuses}

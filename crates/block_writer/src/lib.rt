@@ -1,15 +1,15 @@
 // The version 2 writer (document 01, "The binary block"). No public function has a `requires`.
-use address_writer::put_addresses;
+use address_block_writer::put_addresses;
 use answer::Fault;
 use answer::Written;
 use answer::is_written;
+use clean::clean;
 use lent::put;
 use record::Kind;
 use record::Record;
 use record::block_length;
 use record::kind_byte;
 use tlv::well_formed;
-use unused::clean;
 ghost use mathlib.Core.Path.{_≡_};
 ghost use lib.ListN.{length};
 ghost use Rattle.lent.specs.Placed.{placed};

@@ -7,11 +7,11 @@ use native.Mathlib.Nat.{le-refl}
 use native.Mathlib.Omega.{arith}
 use lib.Dec.{eqb, leb}
 use lib.ListN.{length}
-use borrow.Author.Tests.{eqb-true, eqb-false, eq-eqb, ne-eqb, leb-true, leb-false, le-leb, lt-leb}
+use borrow.Author.Tests.{eqb-true, eqb-false, leb-true, leb-false}
 use Rattle.exact.specs.Claim.{AllBytes}
 use Rattle.exact.specs.Field.{Exact}
 use Rattle.exact.specs.MachineLaws.{machine-exact, Sound}
-use Rattle.exact.specs.Machine.{leaf, Move, go, done, dead}
+use Rattle.exact.specs.Machine.{leaf, Move}
 use Rattle.exact.specs.Pick.{pick-by}
 use Rattle.exact.specs.Parser.{Parser, ended-bytes}
 use Rattle.exact.specs.Ended.{Ended}
@@ -192,26 +192,3 @@ module _ (bound end : ℕ) where
 
   pub decimal-within : (k : ℕ) (s : List ℕ) → Within (λ (n : ℕ). n ≤ bound) (length s) (decimalVerdict k bound end s)
   decimal-within k s = run-within (Ok bound) (λ (n : ℕ). n ≤ bound) k (stepDecimal bound end) step-keeps s start tt
-
--- ── the steps, by the tests that the code makes ──
-module _ (bound n c : ℕ) where
-  pub digit-low : c < 48 → digit bound n c ≡ dead
-  digit-low h = simp (lt-leb 48 c h)
-
-  pub digit-high : 48 ≤ c → 57 < c → digit bound n c ≡ dead
-  digit-high l h = simp (le-leb 48 c l, lt-leb c 57 h)
-
-  pub digit-over : 48 ≤ c → c ≤ 57 → bound < n * 10 + (c - 48) → digit bound n c ≡ dead
-  digit-over l h o = simp (le-leb 48 c l, le-leb c 57 h, lt-leb (n * 10 + (c - 48)) bound o)
-
-  pub digit-go : 48 ≤ c → c ≤ 57 → n * 10 + (c - 48) ≤ bound → digit bound n c ≡ go (behind (n * 10 + (c - 48)))
-  digit-go l h o = simp (le-leb 48 c l, le-leb c 57 h, le-leb (n * 10 + (c - 48)) bound o)
-
-  pub behind-end : (end : ℕ) → c ≡ end → stepDecimal bound end (behind n) c ≡ done n
-  behind-end end e = simp (eq-eqb c end e)
-
-  pub behind-zero : (end : ℕ) → (c ≡ end → ⊥) → n ≡ 0 → stepDecimal bound end (behind n) c ≡ dead
-  behind-zero end h e = simp (ne-eqb c end h, eq-eqb n 0 e)
-
-  pub behind-digit : (end : ℕ) → (c ≡ end → ⊥) → (n ≡ 0 → ⊥) → stepDecimal bound end (behind n) c ≡ digit bound n c
-  behind-digit end h e = simp (ne-eqb c end h, ne-eqb n 0 e)

@@ -74,9 +74,11 @@ shortEnd = crField then λ x. lineFeed (lined (bare Unspecified))
 abbrev pub restField : Parser ℕ
 restField = lineEnd 5 93 (omega arith)
 
+abbrev pub fromRest : Parser Header
+fromRest = restField then λ y. just (lined (bare Unspecified))
+
 abbrev pub longEnd : Parser Header
-longEnd =
-    spaceField then λ x. restField then λ y. just (lined (bare Unspecified))
+longEnd = spaceField then λ x. fromRest
 
 abbrev pub isCr : ℕ → Bool
 isCr c = eqb c 13
@@ -121,8 +123,12 @@ module _ (address4 address6 : Parser (List ℕ)) where
   pub starts6 : Starts is4 false (tcp6 .field)
   starts6 = starts-seq is4 false _ _ (starts-word is4 2 54 (32 ∷ []) (omega arith))
 
+  -- behind "TCP"
+  abbrev pub families : Parser Header
+  families = either is4 tcp4 tcp6 starts4 starts6
+
   abbrev pub tcps : Parser Header
-  tcps = tcpWord then λ x. either is4 tcp4 tcp6 starts4 starts6
+  tcps = tcpWord then λ x. families
 
   pub unknown-starts : Starts isU true (unknown .field)
   unknown-starts = starts-seq isU true _ _ (starts-word isU 2 85 (ascii "NKNOWN") (omega arith))
@@ -130,5 +136,9 @@ module _ (address4 address6 : Parser (List ℕ)) where
   pub tcps-starts : Starts isU false (tcps .field)
   tcps-starts = starts-seq isU false _ _ (starts-word isU 2 84 (ascii "CP") (omega arith))
 
+  -- behind "PROXY "
+  abbrev pub words : Parser Header
+  words = either isU unknown tcps unknown-starts tcps-starts
+
   abbrev pub line : Parser Header
-  line = proxyWord then λ x. either isU unknown tcps unknown-starts tcps-starts
+  line = proxyWord then λ x. words

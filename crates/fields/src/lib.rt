@@ -1,2 +1,2 @@
-// The fields of a header and their exactness: the nested fields by which demand 3 is proved of the definitions in `header`, and what follows
-// from it. For proofs; what a whole header is stands in `header`.
+// The fields of a header, which the stages of a reader cite, and their exactness: demand 3 is proved by them of the definitions in `header`, and what
+// follows from it. What a whole header is stands in `header`.

@@ -1,6 +1,6 @@
 -- For proofs. How many bytes IPv4 text has.
 use mathlib.Core.List.{List}
-use Prim.Native.Nat.{ℕ, _-_, _≤_}
+use Prim.Native.Nat.{ℕ, _≤_}
 use native.Mathlib.Omega.{arith}
 use lib.ListN.{length, length-append}
 use Rattle.ip4.specs.Ip4.{Address}

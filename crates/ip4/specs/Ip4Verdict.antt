@@ -1,6 +1,6 @@
 -- The verdict on IPv4 text that a byte ends, octet by octet.
 use mathlib.Core.List.{List, [], _∷_, _++_}
-use Prim.Native.Nat.{ℕ, zero, suc, _+_}
+use Prim.Native.Nat.{ℕ, zero, suc}
 use lib.Dec.{eqb}
 use Rattle.exact.specs.Claim.{Verdict, accepted}
 use Rattle.exact.specs.Field.{after}

@@ -1,4 +1,4 @@
--- What the answer of a part of the reading says.
+-- What a function that scans a part of an address answers.
 use mathlib.Core.Path.{_≡_}
 use mathlib.Core.List.{List}
 use Prim.Native.Nat.{ℕ, zero, suc, _+_}

@@ -19,10 +19,10 @@ use Rattle.exact.specs.Literal.{literal}
 use Rattle.record.specs.declared.Kind.the-variants.{Unspecified}
 use Rattle.record.specs.Records.{bare}
 use Rattle.header.specs.Header.{Header}
-use Rattle.fields.specs.LineFields.{word, lined, lineFeed, fromSource, is4, isU, tcp4, tcp6, tcps, unknown, shortEnd, longEnd, isCr, unknownEnd}
+use Rattle.fields.specs.LineFields.{word, lined, lineFeed, fromSource, is4, isU, tcp4, tcp6, tcps, unknown, shortEnd, longEnd, isCr, unknownEnd, families, fromRest, words}
 use Rattle.fields.specs.Exactness.{address4, address6}
 use Rattle.line_address.specs.Families.{tcpKind, field}
-use Rattle.line.specs.Stages.{fromSpace, isFamily, families, fromRest, words}
+use Rattle.line.specs.Stages.{fromSpace, isFamily}
 
 -- a field whose first byte has come, and the rest
 after-cons : {A B : Type 0} (v : Verdict A) (next : A → List ℕ → Verdict B) (c : ℕ) (t : List ℕ) → after (shift 1 v) next (c ∷ t) ≡ shift 1 (after v next t)
@@ -98,33 +98,33 @@ module _ (s : List ℕ) (at : ℕ) (inside : at < length s) where
   six = tcp6 address4 address6
 
   -- behind "TCP"
-  family-four : getD s at 0 ≡ 52 → shift (at + 1) (fromSpace false .verdict (drop (at + 1) s)) ≡ shift at (families .verdict (drop at s))
+  family-four : getD s at 0 ≡ 52 → shift (at + 1) (fromSpace false .verdict (drop (at + 1) s)) ≡ shift at (families address4 address6 .verdict (drop at s))
   family-four e =
       byte-first s at inside 52 (four .verdict) (fromSpace false .verdict) e
       (λ t. word-first 2 52 32 [] (λ u. fromSource (tcpKind false) (field false)) t (omega arith) (omega arith))
       ∙ choice-by s at inside is4 (four .verdict) (six .verdict) true (ap is4 e)
 
-  family-six : getD s at 0 ≡ 54 → shift (at + 1) (fromSpace true .verdict (drop (at + 1) s)) ≡ shift at (families .verdict (drop at s))
+  family-six : getD s at 0 ≡ 54 → shift (at + 1) (fromSpace true .verdict (drop (at + 1) s)) ≡ shift at (families address4 address6 .verdict (drop at s))
   family-six e =
       byte-first s at inside 54 (six .verdict) (fromSpace true .verdict) e
       (λ t. word-first 2 54 32 [] (λ u. fromSource (tcpKind true) (field true)) t (omega arith) (omega arith))
       ∙ choice-by s at inside is4 (four .verdict) (six .verdict) false (ap is4 e)
 
   pub family-known : isFamily (getD s at 0) ≡ true
-      → shift (at + 1) (fromSpace (eqb (getD s at 0) 54) .verdict (drop (at + 1) s)) ≡ shift at (families .verdict (drop at s))
+      → shift (at + 1) (fromSpace (eqb (getD s at 0) 54) .verdict (drop (at + 1) s)) ≡ shift at (families address4 address6 .verdict (drop at s))
   family-known h = by (eqb (getD s at 0) 52) refl h
     where
       said : ℕ → Verdict Header
       said c = shift (at + 1) (fromSpace (eqb c 54) .verdict (drop (at + 1) s))
 
-      by : (b : Bool) → eqb (getD s at 0) 52 ≡ b → pick b true (eqb (getD s at 0) 54) ≡ true → said (getD s at 0) ≡ shift at (families .verdict (drop at s))
+      by : (b : Bool) → eqb (getD s at 0) 52 ≡ b → pick b true (eqb (getD s at 0) 54) ≡ true → said (getD s at 0) ≡ shift at (families address4 address6 .verdict (drop at s))
       by true e h = let is = eqb-true (getD s at 0) 52 e in ap said is ∙ family-four is
       by false e h = let is = eqb-true (getD s at 0) 54 h in ap said is ∙ family-six is
 
-  pub family-other : isFamily (getD s at 0) ≡ false → refused 2 at ≡ shift at (families .verdict (drop at s))
+  pub family-other : isFamily (getD s at 0) ≡ false → refused 2 at ≡ shift at (families address4 address6 .verdict (drop at s))
   family-other h = by (eqb (getD s at 0) 52) refl h
     where
-      by : (b : Bool) → eqb (getD s at 0) 52 ≡ b → pick b true (eqb (getD s at 0) 54) ≡ false → refused 2 at ≡ shift at (families .verdict (drop at s))
+      by : (b : Bool) → eqb (getD s at 0) 52 ≡ b → pick b true (eqb (getD s at 0) 54) ≡ false → refused 2 at ≡ shift at (families address4 address6 .verdict (drop at s))
       by true e h = let z : _≡_ {A = ℕ} 0 1 = cc in absurd (omega arith)
       by false e h =
           byte-other s at inside 2 (six .verdict)
@@ -150,8 +150,8 @@ module _ (s : List ℕ) (at : ℕ) (inside : at < length s) where
       ∙ choice-by s at inside isCr (shortEnd .verdict) (longEnd .verdict) false (ne-eqb (getD s at 0) 13 n)
 
   -- behind "PROXY "
-  pub word-unknown : getD s at 0 ≡ 85 → shift at (unknown .verdict (drop at s)) ≡ shift at (words .verdict (drop at s))
+  pub word-unknown : getD s at 0 ≡ 85 → shift at (unknown .verdict (drop at s)) ≡ shift at (words address4 address6 .verdict (drop at s))
   word-unknown e = choice-by s at inside isU (unknown .verdict) (tcps address4 address6 .verdict) true (ap isU e)
 
-  pub word-tcp : (getD s at 0 ≡ 85 → ⊥) → shift at (tcps address4 address6 .verdict (drop at s)) ≡ shift at (words .verdict (drop at s))
+  pub word-tcp : (getD s at 0 ≡ 85 → ⊥) → shift at (tcps address4 address6 .verdict (drop at s)) ≡ shift at (words address4 address6 .verdict (drop at s))
   word-tcp n = choice-by s at inside isU (unknown .verdict) (tcps address4 address6 .verdict) false (ne-eqb (getD s at 0) 85 n)

@@ -1,4 +1,5 @@
 // The version 1 line, a field at a time: a stage stands at a place of the bytes, reads its field, and hands on to the next.
+// No public function has a `requires`.
 use answer::Caller;
 use answer::Refusal;
 use answer::Seen;
@@ -15,11 +16,11 @@ ghost use mathlib.Core.Path.{_≡_};
 ghost use Prim.Native.Nat.{_≤_};
 ghost use lib.ListN.{length, drop, take};
 ghost use Rattle.exact.specs.Field.{shift};
-ghost use Rattle.fields.specs.LineFields.{lined, lineFeed, fromDestinationPort, fromSourcePort, fromDestination, fromSource, tcps, unknownEnd, unknown};
+ghost use Rattle.fields.specs.LineFields.{lined, lineFeed, fromDestinationPort, fromSourcePort, fromDestination, fromSource, tcps, unknownEnd, unknown, families, fromRest, words};
 ghost use Rattle.fields.specs.Exactness.{address4, address6, lineField};
 ghost use Rattle.answer.specs.Sight.{callerRecord, callerOf, Sees};
 ghost use Rattle.line_address.specs.Families.{tcpKind, width, field, padded};
-ghost use Rattle.line.specs.Stages.{fromSpace, isFamily, families, fromRest, words};
+ghost use Rattle.line.specs.Stages.{fromSpace, isFamily};
 
 // TCP6 if six, else TCP4.
 fn tcp_kind(six: bool) -> Kind
@@ -133,7 +134,7 @@ fn is_family(c: u8) -> bool
 // Behind "TCP": 4 or 6.
 fn from_family(s: &[u8], at: usize) -> Seen
     requires { ⌜ at ≤ length (now s) ⌝ }
-    ensures { λ r. ⌜ Sees (now (s .entry)) (shift at (families .verdict (drop at (now (s .entry))))) r ⌝ }
+    ensures { λ r. ⌜ Sees (now (s .entry)) (shift at (families address4 address6 .verdict (drop at (now (s .entry))))) r ⌝ }
 {
     if s.len() <= at {
         return more();
@@ -206,7 +207,7 @@ fn from_unknown(s: &[u8], at: usize) -> Seen
 // Behind "PROXY ": the word.
 fn from_word(s: &[u8], at: usize) -> Seen
     requires { ⌜ at ≤ length (now s) ⌝ }
-    ensures { λ r. ⌜ Sees (now (s .entry)) (shift at (words .verdict (drop at (now (s .entry))))) r ⌝ }
+    ensures { λ r. ⌜ Sees (now (s .entry)) (shift at (words address4 address6 .verdict (drop at (now (s .entry))))) r ⌝ }
 {
     if s.len() <= at {
         return more();

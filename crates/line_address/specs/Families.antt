@@ -1,4 +1,4 @@
--- What the families of a TCP line differ in: six is true for TCP6.
+-- What the families of a TCP line differ in, six being true for TCP6, and the bytes of an address as a caller holds them.
 use mathlib.Core.Path.{_≡_}
 use mathlib.Core.Bool.{Bool, true, false}
 use mathlib.Core.List.{List}

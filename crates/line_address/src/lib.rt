@@ -1,4 +1,4 @@
-// The addresses of a TCP line: IPv4 or IPv6 text that a space ends, as the bytes of the address.
+// The addresses of a TCP line: IPv4 or IPv6 text that a space ends, as the bytes of the address. No public function has a `requires`.
 use exact::Scan;
 ghost use mathlib.Core.Path.{_≡_};
 ghost use Prim.Native.Nat.{_/_, _%_};

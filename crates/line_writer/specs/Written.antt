@@ -11,7 +11,7 @@ use Rattle.record.specs.declared.Kind.{Kind}
 use Rattle.record.specs.declared.Kind.the-variants.{Local, Unspecified, Ip4, Ip6, Unix}
 use Rattle.record.specs.declared.Record.{Record}
 use Rattle.record.specs.Records.{Clean, Sized}
-use Rattle.unused.specs.Unused.{cleanTest}
+use Rattle.clean.specs.Unused.{cleanTest}
 use Rattle.answer.specs.Answers.{WriteAnswer, wrote, refuses}
 use Rattle.draft.specs.Numeral.{decimalText}
 use Rattle.address_text.specs.Addresses.{ip4Text, ip6Text}

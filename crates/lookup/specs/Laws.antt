@@ -12,7 +12,7 @@ use lib.Seq.{take-append-seam, drop-append-add}
 use Rattle.exact.specs.Pick.{pick}
 use Rattle.tlv.specs.Tlv.{Tlv, written, Area}
 use Rattle.tlv.specs.Laws.{written-append}
-use Rattle.lookup.specs.Lookup.{Outcome, found, absent, gaveUp, refused, Lookup, foundAt, without, firstOf, startOf, lengthOf, lookupIn}
+use Rattle.lookup.specs.Lookup.{Finding, found, absent, gaveUp, refused, Lookup, foundAt, without, firstOf, startOf, lengthOf, lookupIn}
 use Rattle.lookup.specs.Steps.{past, past-start, past-past, lookup-none, lookup-out, lookup-found, lookup-past}
 
 -- "never examines more than the limit"
@@ -31,7 +31,7 @@ module _ (tlvs : List Tlv) (wanted limit : ℕ) where
   count-within = count-by (ltb i (length tlvs)) (ltb i limit) (leb (length tlvs) limit) refl refl
 
 -- found or absent
-abbrev pub Decided : Outcome → Type 0
+abbrev pub Decided : Finding → Type 0
 Decided found = Unit {0}
 Decided absent = Unit {0}
 Decided gaveUp = ⊥
@@ -55,7 +55,7 @@ module _ (tlvs : List Tlv) (wanted m n : ℕ) (le : m ≤ n) where
   larger-limit = larger-by (ltb (i tlvs wanted m) (length tlvs)) (ltb (i tlvs wanted m) m) (leb (length tlvs) m) refl refl
 
 -- ── joined lists ──
-abbrev pub elseBy : Outcome → Lookup → Lookup → Lookup
+abbrev pub elseBy : Finding → Lookup → Lookup → Lookup
 elseBy found r next = r
 elseBy absent r next = next
 elseBy gaveUp r next = r
@@ -65,7 +65,7 @@ elseBy (refused number) r next = r
 abbrev pub orElse : Lookup → Lookup → Lookup
 orElse r next = elseBy (r .outcome) r next
 
-past-else : (n bytes : ℕ) (x : Outcome) (r next : Lookup) → past n bytes (elseBy x r next) ≡ elseBy x (past n bytes r) (past n bytes next)
+past-else : (n bytes : ℕ) (x : Finding) (r next : Lookup) → past n bytes (elseBy x r next) ≡ elseBy x (past n bytes r) (past n bytes next)
 past-else n bytes found r next = refl
 past-else n bytes absent r next = refl
 past-else n bytes gaveUp r next = refl

@@ -11,35 +11,35 @@ use Rattle.lookup.specs.declared.Answer.the-variants.{Found, Absent, Gav
 use Rattle.lookup.specs.declared.Examined.{Examined}
 
 -- what a lookup finds out: "found", "absent", "gave up", or a number
-pub data Outcome : Type 0 where
-  found : Outcome
-  absent : Outcome
-  gaveUp : Outcome
-  refused : (number : ℕ) → Outcome
+pub data Finding : Type 0 where
+  found : Finding
+  absent : Finding
+  gaveUp : Finding
+  refused : (number : ℕ) → Finding
 
 -- that with "the number of TLVs examined", and "where the value starts in the area and its length"
 pub record Lookup : Type 0 where
-  pub outcome : Outcome
+  pub outcome : Finding
   pub count : ℕ
   pub start : ℕ
   pub length : ℕ
 
 -- "this paper's number and values for each of its cases"
-abbrev pub toldOutcome : Answer → Outcome
-toldOutcome Found = found
-toldOutcome Absent = absent
-toldOutcome GaveUp = gaveUp
-toldOutcome IllFormed = refused 12
+abbrev pub toldFinding : Answer → Finding
+toldFinding Found = found
+toldFinding Absent = absent
+toldFinding GaveUp = gaveUp
+toldFinding IllFormed = refused 12
 
 abbrev pub toldLookup : Examined → Lookup
-toldLookup r = record { outcome = toldOutcome (r .answer); count = r .count; start = r .start; length = r .length }
+toldLookup r = record { outcome = toldFinding (r .answer); count = r .count; start = r .start; length = r .length }
 
 -- "Found also gives where the value starts in the area and its length"
 abbrev pub foundAt : ℕ → ℕ → ℕ → Lookup
 foundAt count start size = record { outcome = found; count = count; start = start; length = size }
 
 -- "the other answers give 0 for both"
-abbrev pub without : Outcome → ℕ → Lookup
+abbrev pub without : Finding → ℕ → Lookup
 without outcome count = record { outcome = outcome; count = count; start = 0; length = 0 }
 
 -- the index of "the first TLV of that type"; N, "if there is none"

@@ -9,10 +9,10 @@ use lib.Dec.{ltb, leb, leb·zero, leb·suc-zero, leb·suc-suc}
 use lib.ListN.{length, length-append}
 use Rattle.exact.specs.Pick.{pick}
 use Rattle.tlv.specs.Tlv.{Tlv}
-use Rattle.lookup.specs.Lookup.{Outcome, found, absent, gaveUp, refused, Lookup, foundAt, without, firstOf, startOf, lengthOf, lookupIn}
+use Rattle.lookup.specs.Lookup.{Finding, found, absent, gaveUp, refused, Lookup, foundAt, without, firstOf, startOf, lengthOf, lookupIn}
 
 -- a value starts so many bytes further on
-abbrev pub startPast : Outcome → ℕ → ℕ → ℕ
+abbrev pub startPast : Finding → ℕ → ℕ → ℕ
 startPast found bytes start = bytes + start
 startPast absent bytes start = start
 startPast gaveUp bytes start = start
@@ -28,7 +28,7 @@ past n bytes r =
       length = r .length;
     }
 
-start-zero : (x : Outcome) (start : ℕ) → startPast x 0 start ≡ start
+start-zero : (x : Finding) (start : ℕ) → startPast x 0 start ≡ start
 start-zero found start = omega arith
 start-zero absent start = refl
 start-zero gaveUp start = refl
@@ -39,7 +39,7 @@ past-zero r =
     let n : 0 + r .count ≡ r .count = omega arith in
     λ j. record { outcome = r .outcome; count = n j; start = start-zero (r .outcome) (r .start) j; length = r .length }
 
-start-past : (x : Outcome) (a b start : ℕ) → startPast x a (startPast x b start) ≡ startPast x (a + b) start
+start-past : (x : Finding) (a b start : ℕ) → startPast x a (startPast x b start) ≡ startPast x (a + b) start
 start-past found a b start = omega arith
 start-past absent a b start = refl
 start-past gaveUp a b start = refl

@@ -1,7 +1,7 @@
 // Lookup: the first TLV of a type in a TLV area, of which at most as many TLVs are examined as a limit says.
 // No public function has a `requires`.
-ghost use Rattle.lookup.specs.Lookup.{LooksUp};
 use exact::number;
+ghost use Rattle.lookup.specs.Lookup.{LooksUp};
 
 // What a lookup finds out.
 pub enum Answer {

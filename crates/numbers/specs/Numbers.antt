@@ -12,7 +12,7 @@ use Rattle.area.specs.Area.{areaStart, areaEnd}
 use Rattle.numbers.specs.declared.Told.{Told}
 use Rattle.lent.specs.Buffers.{toldIn}
 use Rattle.stored_form.specs.Loading.{LoadAnswer, loads, noRecord}
-use Rattle.lookup.specs.Lookup.{Outcome, found, absent, gaveUp, refused as noArea}
+use Rattle.lookup.specs.Lookup.{Finding, found, absent, gaveUp, refused as noArea}
 
 -- the C functions tell four numbers
 abbrev pub numbersSize : ℕ
@@ -38,7 +38,7 @@ loadNumber (loads r) = 0
 loadNumber (noRecord k) = k
 
 -- "An ill-formed area: 12"; 0 is found, 253 absent, 254 gave up
-abbrev pub lookupNumber : Outcome → ℕ
+abbrev pub lookupNumber : Finding → ℕ
 lookupNumber found = 0
 lookupNumber absent = 253
 lookupNumber gaveUp = 254

@@ -11,8 +11,8 @@ ghost use mathlib.Core.List.{[], _∷_};
 ghost use Rattle.record.specs.declared.Record.{Record};
 ghost use Rattle.lent.specs.Buffers.{toldIn};
 ghost use Rattle.answer.specs.Answers.{toldWritten};
-ghost use Rattle.stored_form.specs.Loading.{toldOutcome as toldLoaded};
-ghost use Rattle.lookup.specs.Lookup.{toldOutcome};
+ghost use Rattle.stored_form.specs.Loading.{toldOutcome};
+ghost use Rattle.lookup.specs.Lookup.{toldFinding};
 ghost use Rattle.numbers.specs.Numbers.{numbersSize, toldOf, roomBeside, writtenNumber, numbersAfter, loadNumber, lookupNumber};
 
 pub const NUMBERS: usize = 4;
@@ -92,7 +92,7 @@ pub fn tell_written(written: Written, numbers: &mut [u64]) -> u32
 
 // The number of an outcome.
 pub fn outcome_number(outcome: Outcome) -> u32
-    ensures { λ r. ⌜ ((c : Record) → r ≡ loadNumber (toldLoaded outcome c)) ⌝ }
+    ensures { λ r. ⌜ ((c : Record) → r ≡ loadNumber (toldOutcome outcome c)) ⌝ }
 {
     match outcome {
         Outcome::Accepted => 0,
@@ -102,7 +102,7 @@ pub fn outcome_number(outcome: Outcome) -> u32
 
 // The number of a lookup's answer.
 pub fn lookup_number(answer: Answer) -> u32
-    ensures { λ r. ⌜ r ≡ lookupNumber (toldOutcome answer) ⌝ }
+    ensures { λ r. ⌜ r ≡ lookupNumber (toldFinding answer) ⌝ }
 {
     match answer {
         Answer::Found => 0,

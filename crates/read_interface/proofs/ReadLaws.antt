@@ -26,7 +26,7 @@ use Rattle.lent.specs.Buffers.{over, toldIn}
 use Rattle.numbers.specs.Numbers.{numbersSize, toldOf}
 use Rattle.lent.specs.BufferLaws.{roomy}
 use Rattle.connection.specs.Connection.{connectionSize, connectionBytes}
-use Rattle.read_interface.specs.ReadInterface.{answerNumber, numbersOf, spokenRecord, roomFor, readAnswer, readNumbers, readConnection, ReadTold}
+use Rattle.read_interface.specs.ReadInterface.{answerNumber, numbersOf, spokenRecord, roomFor, ReadTold}
 
 -- ── the record ──
 spoken-by : (s : List ℕ) (w : Verdict) (r : Reading) (v : Claim.Verdict Header) → toldVerdict s w r ≡ v → bareUnless w r → spokenRecord v ≡ r .record

@@ -1,4 +1,4 @@
--- The kind that byte 13 was found to be of.
+-- The kind that a byte says, or none.
 use mathlib.Core.Option.{Option, some, none}
 use Rattle.record.specs.declared.Kind.{Kind}
 use Rattle.record.specs.declared.Family.{Family}

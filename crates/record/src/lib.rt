@@ -1,4 +1,4 @@
-// The connection record: a kind, two addresses and two ports (document 01, "The record").
+// The record: a kind, two addresses and two ports (document 01, "The record").
 // No public function has a `requires`.
 ghost use mathlib.Core.Path.{_≡_};
 ghost use Rattle.record.specs.KnownFamily.{toldFamily};
@@ -55,7 +55,7 @@ pub fn blank(kind: Kind) -> Record
     record_with(kind, [0; 108], [0; 108], 0, 0)
 }
 
-// What byte 13 says under PROXY.
+// What a byte says of a kind: byte 13 under PROXY, or a kind code.
 pub enum Family {
     Known(Kind),
     Unknown,

@@ -1,13 +1,13 @@
 // The writer of the stored form, version 1 (document 01, "Stored form, version 1"). No public function has a `requires`.
-use address_writer::put_addresses;
+use address_block_writer::put_addresses;
 use answer::Fault;
 use answer::Written;
 use answer::is_written;
+use clean::clean;
 use kind_code::code_of;
 use lent::put;
 use record::Record;
 use record::block_length;
-use unused::clean;
 ghost use mathlib.Core.Path.{_≡_};
 ghost use lib.ListN.{length};
 ghost use Rattle.answer.specs.Answers.{toldWritten, outputAfter};

@@ -17,8 +17,8 @@ use Rattle.record.specs.declared.Kind.the-variants.{Local, Unspecified, Ip4, Ip
 use Rattle.record.specs.declared.Record.{Record}
 use Rattle.record.specs.Kinds.{blockLength}
 use Rattle.record.specs.Records.{Clean, Sized}
-use Rattle.unused.specs.Unused.{cleanTest}
-use Rattle.unused.specs.UnusedLaws.{clean-test}
+use Rattle.clean.specs.Unused.{cleanTest}
+use Rattle.clean.specs.UnusedLaws.{clean-test}
 use Rattle.address_block.specs.AddressBlock.{blockRecord}
 use Rattle.address_block.specs.AddressBlockLaws.{block-size, record-again, block-again, block-clean, block-sized}
 use Rattle.answer.specs.Answers.{WriteAnswer, wrote, refuses, outputAfter}

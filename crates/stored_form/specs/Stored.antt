@@ -5,7 +5,7 @@ use lib.Dec.{leb}
 use lib.ListN.{length}
 use Rattle.exact.specs.Pick.{pick}
 use Rattle.record.specs.declared.Record.{Record}
-use Rattle.unused.specs.Unused.{cleanTest}
+use Rattle.clean.specs.Unused.{cleanTest}
 use Rattle.address_block.specs.AddressBlock.{addressBlock}
 use Rattle.answer.specs.Answers.{WriteAnswer, wrote, refuses}
 use Rattle.kind_code.specs.Codes.{codeOf}

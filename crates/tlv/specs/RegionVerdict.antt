@@ -21,19 +21,22 @@ enter zero zero = done 0
 enter zero (suc n) = go (typeByte (suc n))
 enter (suc v) n = go (valueByte v n)
 
+-- "a length is good exactly if it is R or at most R - 3"
 abbrev pub good : ℕ → ℕ → Bool
 good size room = pick (eqb size room) true (leb (size + 3) room)
 
+-- what the byte c does where one is due
 abbrev pub stepByte : Due → ℕ → Move Due ℕ
 stepByte (typeByte n) c = pick (leb 3 n) (go (highByte (n - 3))) dead
 stepByte (highByte room) c = pick (leb (256 * c) room) (go (lowByte c room)) dead
 stepByte (lowByte h room) c = pick (good (256 * h + c) room) (enter (256 * h + c) (room - (256 * h + c))) dead
 stepByte (valueByte v n) c = enter v n
 
+-- no other number is a byte
 abbrev pub step : Due → ℕ → Move Due ℕ
 step q c = pick (ltb c 256) (stepByte q c) dead
 
--- the same where n may be 0
+-- the verdict on n bytes; none are there at once
 abbrev pub judge : ℕ → ℕ → List ℕ → Verdict ℕ
 judge k zero s = accepted 0 0
 judge k (suc n) s = run k step s (typeByte (suc n))

@@ -1,5 +1,7 @@
 // TLV areas: bytes that TLVs fill, each a type, two length bytes (high first) and a value.
 // No public function has a `requires`.
+use exact::Scan;
+use exact::number;
 ghost use mathlib.Core.Path.{_≡_};
 ghost use mathlib.Core.Bool.{true};
 ghost use mathlib.Core.Logic.{_⊎_};
@@ -10,8 +12,6 @@ ghost use Rattle.exact.specs.Scans.{told};
 ghost use Rattle.tlv.specs.Tlv.{WellFormed, Filled};
 ghost use Rattle.tlv.specs.RegionVerdict.{good, judge};
 ghost use Rattle.tlv.specs.Count.{Counts};
-use exact::Scan;
-use exact::number;
 
 // How many TLVs of a type an area has.
 pub enum Count {

@@ -17,7 +17,7 @@ abbrev pub lookupNumbers : ℕ → Lookup → List ℕ
 lookupNumbers wanted x = x .count ∷ wanted ∷ x .start ∷ x .length ∷ []
 
 -- what `dawnhawse_lookup` answers and leaves: with too little room 14, and the numbers as they were
-pub record LookedUp (area : List ℕ) (wanted limit : ℕ) (numbers : List ℕ) (answer : ℕ) (after : List ℕ) : Type 0 where
+pub record LookupTold (area : List ℕ) (wanted limit : ℕ) (numbers : List ℕ) (answer : ℕ) (after : List ℕ) : Type 0 where
   pub examined : Examined
   pub looks : LooksUp area wanted limit examined
   pub answers : answer ≡ pick (leb numbersSize (length numbers)) (lookupNumber (toldLookup examined .outcome)) 14
@@ -39,7 +39,7 @@ abbrev pub stepNumbers : ℕ → Step → List ℕ
 stepNumbers at step = placeAfter at step ∷ typeOf step ∷ startOf step ∷ lengthOf step ∷ []
 
 -- what a step at a place leaves: with too little room 14, and the numbers as they were
-pub record Stepped (at : ℕ) (step : Step) (numbers : List ℕ) (answer : ℕ) (after : List ℕ) : Type 0 where
+pub record StepTold (at : ℕ) (step : Step) (numbers : List ℕ) (answer : ℕ) (after : List ℕ) : Type 0 where
   pub answers : answer ≡ pick (leb numbersSize (length numbers)) (stepNumber step) 14
   pub left : after ≡ toldIn numbersSize (stepNumbers at step) numbers
 

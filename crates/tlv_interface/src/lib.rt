@@ -9,12 +9,12 @@ ghost use Prim.Native.Nat.{_+_, _≤_};
 ghost use lib.ListN.{drop};
 ghost use Rattle.tlv.specs.Tlv.{WellFormed};
 ghost use Rattle.tlv_step.specs.Step.{toldStep, headAt, stepAt, startOf, lengthOf};
-ghost use Rattle.tlv_interface.specs.TlvInterface.{LookedUp, stepTold, Stepped};
+ghost use Rattle.tlv_interface.specs.TlvInterface.{LookupTold, stepTold, StepTold};
 
 // Looks for the first TLV of a type in a TLV area, of which at most as many TLVs are examined as the limit says. With room for 4 numbers
 // they are told; else nothing is written.
 pub fn look_up(area: &[u8], wanted: u8, limit: usize, numbers: &mut [u64]) -> u32
-    ensures { λ r. ⌜ LookedUp (now (area .entry)) wanted limit (now (numbers .entry)) r (now (numbers .exit)) ⌝ }
+    ensures { λ r. ⌜ LookupTold (now (area .entry)) wanted limit (now (numbers .entry)) r (now (numbers .exit)) ⌝ }
 {
     let examined = lookup::lookup(area, wanted, limit);
     let answer = examined.answer;
@@ -68,7 +68,7 @@ fn tell_step(shown: Shown, at: usize, size: usize) -> Told
 // Tells what a step shows. With room for 4 numbers they are told; else nothing is written.
 fn put_step(shown: Shown, at: usize, size: usize, numbers: &mut [u64]) -> u32
     requires { ⌜ startOf (toldStep shown) + lengthOf (toldStep shown) ≤ size ⌝ }
-    ensures { λ r. ⌜ Stepped at (toldStep shown) (now (numbers .entry)) r (now (numbers .exit)) ⌝ }
+    ensures { λ r. ⌜ StepTold at (toldStep shown) (now (numbers .entry)) r (now (numbers .exit)) ⌝ }
 {
     if numbers.len() < NUMBERS {
         return 14;
@@ -80,15 +80,15 @@ fn put_step(shown: Shown, at: usize, size: usize, numbers: &mut [u64]) -> u32
 
 // One step over a TLV area from a place: it looks at all that remains.
 pub fn step(area: &[u8], at: usize, numbers: &mut [u64]) -> u32
-    ensures { λ r. ⌜ Stepped at (stepAt (now (area .entry)) at) (now (numbers .entry)) r (now (numbers .exit)) ⌝ }
+    ensures { λ r. ⌜ StepTold at (stepAt (now (area .entry)) at) (now (numbers .entry)) r (now (numbers .exit)) ⌝ }
 {
     put_step(walker::shown_at(area, at), at, area.len(), numbers)
 }
 
 // The same with a look at one TLV: as `step`, where what remains is well-formed.
 pub fn next(area: &[u8], at: usize, numbers: &mut [u64]) -> u32
-    ensures { λ r. ⌜ Stepped at (headAt (now (area .entry)) at) (now (numbers .entry)) r (now (numbers .exit))
-        × (WellFormed (drop at (now (area .entry))) → Stepped at (stepAt (now (area .entry)) at) (now (numbers .entry)) r (now (numbers .exit))) ⌝ }
+    ensures { λ r. ⌜ StepTold at (headAt (now (area .entry)) at) (now (numbers .entry)) r (now (numbers .exit))
+        × (WellFormed (drop at (now (area .entry))) → StepTold at (stepAt (now (area .entry)) at) (now (numbers .entry)) r (now (numbers .exit))) ⌝ }
 {
     put_step(tlv_step::head_at(area, at), at, area.len(), numbers)
 }

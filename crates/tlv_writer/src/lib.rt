@@ -1,7 +1,7 @@
 // One TLV, put into an output. No public function has a `requires`.
+use lent::put;
 ghost use mathlib.Core.Path.{_≡_};
 ghost use Rattle.tlv_writer.specs.Put.{tlvPlaced};
-use lent::put;
 
 // Puts one TLV at this place of the output. Where it does not fit, or its value has more than 65,535 bytes, the output stays as it is.
 pub fn put_tlv(tlv_type: u8, value: &[u8], out: &mut [u8], at: usize)

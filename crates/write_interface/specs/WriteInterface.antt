@@ -21,7 +21,7 @@ pub record Writes (w : WriteAnswer) (text output numbers : List ℕ) (answer : �
   pub writes : outputLeft ≡ outputAfter w text output
   pub tells : numbersLeft ≡ numbersAfter w numbers
 
--- what is left of a connection that asks for a writer's text
+-- what is left of the output and the numbers where a connection asks for a writer's text
 abbrev pub WritesAsked : (answerFor : Record → (room : ℕ) → WriteAnswer) (text : Record → List ℕ) (connection output numbers : List ℕ)
     → ℕ → (outputLeft numbersLeft : List ℕ) → Type 0
 WritesAsked answerFor text connection output numbers =

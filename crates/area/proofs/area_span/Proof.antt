@@ -3,7 +3,7 @@ use mathlib.Core.Path.{refl, sym, ap, _∙_}
 use Prim.Native.Nat.{ℕ, _+_, min}
 use native.Mathlib.Omega.{arith}
 use Rattle.fields.specs.BlockFields.{block-small}
-use Rattle.area.specs.AreaLaws.{span-none, old-version, no-block, span-some}
+use Rattle.area.proofs.SpanLaws.{span-none, old-version, no-block, span-some}
 use borrow.Author.Needs.{needs}
 use Rattle.area.proofs.area_span.Statement.{statement}
 use Rattle.area.proofs.area_span.Tie as tie

@@ -11,7 +11,7 @@ use lib.Dec.{ltb}
 use lib.ListN.{length}
 use Rattle.record.specs.declared.Record.{Record}
 use Rattle.record.specs.Records.{Sized}
-use Rattle.unused.specs.Unused.{cleanTest}
+use Rattle.clean.specs.Unused.{cleanTest}
 use Rattle.record.proofs.InMemory.{in-memory}
 use Rattle.fields.specs.BlockFields.{block-small}
 use Rattle.answer.specs.Answers.{wrote}

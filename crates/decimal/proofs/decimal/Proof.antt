@@ -12,7 +12,8 @@ use Rattle.exact.specs.Machine.{Move, run, go, done, dead, from}
 use Rattle.exact.specs.Theorem.{leaf-claims}
 use Rattle.decimal.specs.Decimal.{Digit, Decimal}
 use Rattle.decimal.specs.DecimalVerdict.{At, decimalVerdict, stepDecimal, start, behind}
-use Rattle.decimal.specs.DecimalLeaf.{decimal, behind-end, behind-zero, behind-digit}
+use Rattle.decimal.specs.DecimalLeaf.{decimal}
+use Rattle.decimal.proofs.Steps.{behind-end, behind-zero, behind-digit}
 use Rattle.decimal.specs.declared.Grown.{Grown}
 use Rattle.decimal.specs.declared.Grown.the-variants.{Number, Dead}
 use Rattle.decimal.specs.Grows.{moveOf}

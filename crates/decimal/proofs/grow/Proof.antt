@@ -1,7 +1,7 @@
 -- `grow` moves as the decimal machine at a digit: each test of the code is one of the machine's.
 use mathlib.Core.Path.{sym}
 use borrow.Author.Needs.{needs}
-use Rattle.decimal.specs.DecimalLeaf.{digit-low, digit-high, digit-over, digit-go}
+use Rattle.decimal.proofs.Steps.{digit-low, digit-high, digit-over, digit-go}
 use Rattle.decimal.proofs.grow.Statement.{statement}
 use Rattle.decimal.proofs.grow.Tie as tie
 

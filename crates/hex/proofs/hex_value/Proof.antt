@@ -2,7 +2,8 @@
 use mathlib.Core.Path.{sym}
 use native.Mathlib.Omega.{arith}
 use borrow.Author.Needs.{needs}
-use Rattle.hex.specs.HexLaws.{hex-before, hex-behind, hex-clear, hex-set}
+use Rattle.hex.specs.HexLaws.{hex-before, hex-behind}
+use Rattle.hex.proofs.Bits.{hex-clear, hex-set}
 use Rattle.hex.proofs.hex_value.Statement.{statement}
 use Rattle.hex.proofs.hex_value.Tie as tie
 

@@ -24,7 +24,8 @@ use Rattle.exact.specs.Verdicts.{Within}
 use Rattle.decimal.specs.DecimalVerdict.{decimalVerdict}
 use Rattle.decimal.specs.DecimalLeaf.{decimal-within}
 use Rattle.ip4.specs.Ip4Verdict.{endOf, ip4Verdict}
-use Rattle.ip4.specs.Ip4Leaf.{ip4, octetsFrom, octets-start, octets-end, octet-more, octet-refused, octet-accepted}
+use Rattle.ip4.specs.Ip4Leaf.{ip4}
+use Rattle.ip4.proofs.Turn.{octetsFrom, octets-start, octets-end, octet-more, octet-refused, octet-accepted}
 use Rattle.ip4.proofs.ip4.Statement.{statement}
 use Rattle.ip4.proofs.ip4.Tie as tie
 

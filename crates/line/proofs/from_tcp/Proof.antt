@@ -9,8 +9,8 @@ use Rattle.exact.specs.Stage.{stage-inside, stage-place}
 use Rattle.exact.specs.Parser.{Parser}
 use Rattle.exact.specs.declared.Scan.{Scan}
 use Rattle.header.specs.Header.{Header}
-use Rattle.fields.specs.LineFields.{tcpWord}
-use Rattle.line.specs.Stages.{families}
+use Rattle.fields.specs.Exactness.{address4, address6}
+use Rattle.fields.specs.LineFields.{tcpWord, families}
 use Rattle.answer.specs.StageLaws.{said, as-more, as-refused, as-accepted}
 use borrow.Author.Needs.{needs}
 use Rattle.line.proofs.from_tcp.Statement.{statement}
@@ -27,7 +27,7 @@ module _ (c : tie.After-literal) where
   at = start .args .at
 
   abbrev rest : ℕ → Parser Header
-  rest x = families
+  rest x = families address4 address6
 
   found : (x : Scan) → c .literal .result ≡ x → told 2 x ≡ tcpWord .verdict (drop at text)
   found x e = said 2 (tcpWord .verdict) text at e (c .literal .ensures .0 2)

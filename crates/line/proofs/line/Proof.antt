@@ -6,9 +6,9 @@ use Rattle.exact.specs.Claim.{accepted, more, refused}
 use Rattle.exact.specs.Parser.{reach-le}
 use Rattle.exact.specs.Scans.{told}
 use Rattle.exact.specs.declared.Scan.{Scan}
-use Rattle.fields.specs.LineFields.{proxyWord}
+use Rattle.fields.specs.Exactness.{address4, address6}
+use Rattle.fields.specs.LineFields.{proxyWord, words}
 use Rattle.answer.specs.StageLaws.{as-first}
-use Rattle.line.specs.Stages.{words}
 use borrow.Author.Needs.{needs}
 use Rattle.line.proofs.line.Statement.{statement}
 use Rattle.line.proofs.line.Tie as tie
@@ -24,13 +24,13 @@ from-word-requires : tie.Need-from-word-requires
 from-word-requires c κs = let ran = c .before .before .before in reach-le proxyWord (text ran) (accepted _ _) (found ran _ (c .before .n .given .1))
 
 returns : tie.Need-returns
-returns c = let ran = c .before .before .before in as-first proxyWord (λ x. words) more (found ran _ (c .before .enum-told .given .1)) (c .more .ensures (text ran))
+returns c = let ran = c .before .before .before in as-first proxyWord (λ x. words address4 address6) more (found ran _ (c .before .enum-told .given .1)) (c .more .ensures (text ran))
 
 returns-2 : tie.Need-returns-2
-returns-2 c = let ran = c .before .before .before .before in as-first proxyWord (λ x. words) (refused 1 _) (found ran _ (c .before .before .place .given .1)) (c .refused .ensures (text ran))
+returns-2 c = let ran = c .before .before .before .before in as-first proxyWord (λ x. words address4 address6) (refused 1 _) (found ran _ (c .before .before .place .given .1)) (c .refused .ensures (text ran))
 
 returns-3 : tie.Need-returns-3
-returns-3 c = let ran = c .before .before .before .before in as-first proxyWord (λ x. words) (accepted _ _) (found ran _ (c .before .before .n .given .1)) (c .from-word .ensures)
+returns-3 c = let ran = c .before .before .before .before in as-first proxyWord (λ x. words address4 address6) (accepted _ _) (found ran _ (c .before .before .n .given .1)) (c .from-word .ensures)
 
 pub line-spec : {M : Type 1} → statement M
 line-spec =

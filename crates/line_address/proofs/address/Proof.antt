@@ -1,3 +1,4 @@
+-- Each family answers for itself.
 use borrow.Author.Needs.{needs}
 use Rattle.line_address.proofs.address.Statement.{statement}
 use Rattle.line_address.proofs.address.Tie as tie

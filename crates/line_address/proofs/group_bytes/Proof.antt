@@ -1,3 +1,4 @@
+-- Each group gives its high byte and its low byte.
 use mathlib.Core.Path.{_≡_}
 use lib.ListN.{length}
 use Rattle.line_address.proofs.AddressLaws.{eight-bytes}

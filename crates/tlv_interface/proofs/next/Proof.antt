@@ -5,7 +5,7 @@ use denote.Ref.{now}
 use lib.ListN.{length}
 use Rattle.tlv_step.specs.Step.{Step, startOf, lengthOf}
 use Rattle.tlv_step.specs.Facts.{head-room}
-use Rattle.tlv_interface.specs.TlvInterface.{Stepped}
+use Rattle.tlv_interface.specs.TlvInterface.{StepTold}
 use borrow.Author.Needs.{needs}
 use Rattle.tlv_interface.proofs.next.Statement.{statement}
 use Rattle.tlv_interface.proofs.next.Tie as tie
@@ -19,8 +19,8 @@ returns : tie.Need-returns
 returns c =
     let put = c .before .before in
     let x = put .before .before .before .before .before .args in
-    let told : (r : Step) → _ ≡ r → Stepped (x .at) r (now (x .numbers)) (put .put-step .result) (put .put-step .last .1 .1 .1 .0) =
-    λ r e. subst (λ (r : Step). Stepped (x .at) r (now (x .numbers)) (put .put-step .result) (put .put-step .last .1 .1 .1 .0)) e (put .put-step .ensures)
+    let told : (r : Step) → _ ≡ r → StepTold (x .at) r (now (x .numbers)) (put .put-step .result) (put .put-step .last .1 .1 .1 .0) =
+    λ r e. subst (λ (r : Step). StepTold (x .at) r (now (x .numbers)) (put .put-step .result) (put .put-step .last .1 .1 .1 .0)) e (put .put-step .ensures)
     in
     (told _ (put .before .before .head-at .ensures .0), λ w. told _ (put .before .before .head-at .ensures .1 w))
 

@@ -5,7 +5,7 @@ use denote.Ref.{now}
 use lib.ListN.{length}
 use Rattle.tlv_step.specs.Step.{Step, startOf, lengthOf}
 use Rattle.tlv_step.specs.Facts.{step-room}
-use Rattle.tlv_interface.specs.TlvInterface.{Stepped}
+use Rattle.tlv_interface.specs.TlvInterface.{StepTold}
 use borrow.Author.Needs.{needs}
 use Rattle.tlv_interface.proofs.step.Statement.{statement}
 use Rattle.tlv_interface.proofs.step.Tie as tie
@@ -19,7 +19,7 @@ returns : tie.Need-returns
 returns c =
     let put = c .before .before in
     let x = put .before .before .before .before .before .args in
-    subst (λ (r : Step). Stepped (x .at) r (now (x .numbers)) (put .put-step .result) (put .put-step .last .1 .1 .1 .0)) (put .before .before .shown-at .ensures)
+    subst (λ (r : Step). StepTold (x .at) r (now (x .numbers)) (put .put-step .result) (put .put-step .last .1 .1 .1 .0)) (put .before .before .shown-at .ensures)
     (put .put-step .ensures)
 
 pub step-spec : {M : Type 1} → statement M

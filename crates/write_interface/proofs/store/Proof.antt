@@ -3,7 +3,7 @@ use Prim.Native.Nat.{ℕ}
 use denote.Ref.{now}
 use Rattle.exact.specs.Pick.{pick-by}
 use Rattle.record.specs.declared.Record.{Record}
-use Rattle.unused.specs.Unused.{cleanTest}
+use Rattle.clean.specs.Unused.{cleanTest}
 use Rattle.stored_form.specs.Stored.{stored, storeAnswer}
 use Rattle.write_interface.proofs.WriteLaws.{Within, fits-at-last, refused, passed-on, part-inside, part-size}
 use borrow.Author.Needs.{needs}

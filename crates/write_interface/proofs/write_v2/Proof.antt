@@ -3,7 +3,7 @@ use Prim.Native.Nat.{ℕ}
 use denote.Ref.{now}
 use Rattle.exact.specs.Pick.{pick-by}
 use Rattle.record.specs.declared.Record.{Record}
-use Rattle.unused.specs.Unused.{cleanTest}
+use Rattle.clean.specs.Unused.{cleanTest}
 use mathlib.Core.List.{List}
 use lib.Dec.{ltb}
 use lib.ListN.{length}

@@ -13,7 +13,7 @@ use Rattle.record.specs.declared.Kind.the-variants.{Local, Unspecified, Ip4, Ip
 use Rattle.record.specs.declared.Record.{Record}
 use Rattle.record.specs.Kinds.{addressLength}
 use Rattle.record.specs.Records.{PortFits, Clean, Sized}
-use Rattle.unused.specs.Unused.{zeros, cleanAddress, cleanPort, cleanTest}
+use Rattle.clean.specs.Unused.{zeros, cleanAddress, cleanPort, cleanTest}
 
 pub all-zero : (s : List ℕ) → zeros s ≡ true → s ≡ replicate (length s) 0
 all-zero [] e = refl

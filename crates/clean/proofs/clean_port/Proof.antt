@@ -1,7 +1,7 @@
 -- Each arm answers as `cleanPort` does at its kind.
 use borrow.Author.Needs.{needs}
-use Rattle.unused.proofs.clean_port.Statement.{statement}
-use Rattle.unused.proofs.clean_port.Tie as tie
+use Rattle.clean.proofs.clean_port.Statement.{statement}
+use Rattle.clean.proofs.clean_port.Tie as tie
 
 returns : tie.Need-returns
 returns c = rw (c .enum-told .given .1)

@@ -1,4 +1,4 @@
-// Whether what a kind does not use is zero.
+// Whether what a kind does not use is zero. No public function has a `requires`.
 use record::Kind;
 use record::Record;
 use record::address_length;
@@ -6,7 +6,7 @@ ghost use mathlib.Core.Path.{_≡_};
 ghost use mathlib.Core.Bool.{true};
 ghost use lib.ListN.{drop};
 ghost use Rattle.record.specs.Records.{Clean};
-ghost use Rattle.unused.specs.Unused.{zeros, cleanPort, cleanTest};
+ghost use Rattle.clean.specs.Unused.{zeros, cleanPort, cleanTest};
 
 // Whether the bytes from this place on are zero.
 fn zero_from(address: [u8; 108], at: usize) -> bool

@@ -9,9 +9,9 @@ use borrow.Author.Tests.{eq-eqb, ne-eqb}
 use lib.Dec.{eqb}
 use lib.ListN.{length, drop, getD, drop-of-length-le}
 use lib.Seq.{drop-cons}
-use Rattle.unused.specs.Unused.{zeros}
-use Rattle.unused.proofs.zero_from.Statement.{statement}
-use Rattle.unused.proofs.zero_from.Tie as tie
+use Rattle.clean.specs.Unused.{zeros}
+use Rattle.clean.proofs.zero_from.Statement.{statement}
+use Rattle.clean.proofs.zero_from.Tie as tie
 
 abbrev Inv-loop : tie.InvT-loop
 Inv-loop at address i₀ i = zeros (drop at address) ≡ zeros (drop i address)

@@ -17,8 +17,8 @@ use Rattle.address_block.specs.AddressBlock.{addressBlock}
 use Rattle.address_block.specs.AddressBlockLaws.{address-fits, address-size, port-size, block-size}
 use Rattle.lent.specs.Placed.{placed}
 use Rattle.lent.specs.PlacedLaws.{placed-else, placed-then}
-use Rattle.address_writer.proofs.put_addresses.Statement.{statement}
-use Rattle.address_writer.proofs.put_addresses.Tie as tie
+use Rattle.address_block_writer.proofs.put_addresses.Statement.{statement}
+use Rattle.address_block_writer.proofs.put_addresses.Tie as tie
 
 -- the lengths of what is put
 module _ (c : tie.After-address-length) where

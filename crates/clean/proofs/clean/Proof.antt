@@ -6,11 +6,11 @@ use borrow.Author.Needs.{needs}
 use lib.ListN.{drop}
 use Rattle.record.specs.declared.Record.{Record}
 use Rattle.record.specs.Records.{Clean}
-use Rattle.unused.specs.Unused.{zeros, cleanAddress, cleanTest}
-use Rattle.unused.specs.UnusedLaws.{clean-test}
+use Rattle.clean.specs.Unused.{zeros, cleanAddress, cleanTest}
+use Rattle.clean.specs.UnusedLaws.{clean-test}
 use Rattle.record.proofs.InMemory.{in-memory}
-use Rattle.unused.proofs.clean.Statement.{statement}
-use Rattle.unused.proofs.clean.Tie as tie
+use Rattle.clean.proofs.clean.Statement.{statement}
+use Rattle.clean.proofs.clean.Tie as tie
 
 -- the test's result, and what it says
 promise : (start : tie.Start) {b : Bool} → b ≡ cleanTest (start .args .r)

@@ -8,8 +8,8 @@ use lib.Seq.{length-take-le}
 use Rattle.exact.specs.Network.{network}
 use Rattle.address_block.specs.AddressBlockLaws.{port-fits}
 use Rattle.lent.specs.Placed.{placed}
-use Rattle.address_writer.proofs.put_port.Statement.{statement}
-use Rattle.address_writer.proofs.put_port.Tie as tie
+use Rattle.address_block_writer.proofs.put_port.Statement.{statement}
+use Rattle.address_block_writer.proofs.put_port.Tie as tie
 
 array-share-prefix-bytes : tie.Need-array-share-prefix-bytes
 array-share-prefix-bytes c = rw (c .port-length .ensures) (port-fits (c .before .before .args .kind))
