@@ -18,7 +18,8 @@ use Rattle.address_block.specs.AddressBlock.{addressBlock}
 use Rattle.address_block.specs.AddressBlockLaws.{address-size, made-again}
 use Rattle.exact.specs.Parser.{bytes-take}
 use Rattle.header.specs.Block.{signature, PROXY, HasAddresses, portBytes, Addresses, AddressBlock, Block}
-use Rattle.block_writer.specs.Written.{commandOf, blockOf, writtenBlock, CarriedByBlock}
+use Rattle.head_writer.specs.Head.{commandOf}
+use Rattle.block_writer.specs.Written.{blockOf, writtenBlock, CarriedByBlock}
 
 proxy-command : (k : Kind) → HasAddresses k → commandOf k ≡ PROXY
 proxy-command Local has = absurd has

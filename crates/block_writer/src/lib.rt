@@ -4,18 +4,17 @@ use answer::Fault;
 use answer::Written;
 use answer::is_written;
 use clean::clean;
+use head_writer::put_head;
 use lent::put;
 use record::Kind;
 use record::Record;
 use record::block_length;
-use record::kind_byte;
 use tlv::well_formed;
 ghost use mathlib.Core.Path.{_≡_};
 ghost use lib.ListN.{length};
-ghost use Rattle.lent.specs.Placed.{placed};
 ghost use Rattle.answer.specs.Answers.{toldWritten, outputAfter};
 ghost use Rattle.block_writer.specs.Areas.{areaTest};
-ghost use Rattle.block_writer.specs.Written.{commandOf, headOf, writtenBlock, blockAnswer};
+ghost use Rattle.block_writer.specs.Written.{writtenBlock, blockAnswer};
 ghost use Rattle.block_writer.specs.Demand.{Means, ReadsBack};
 
 // Whether the area may stand beside the kind: TLVs fill it, and it is empty beside local and unspecified.
@@ -29,44 +28,6 @@ fn area_fits(kind: Kind, area: &[u8]) -> bool
         Kind::Ip6(_) => well_formed(area),
         Kind::Unix(_) => well_formed(area),
     }
-}
-
-// Byte 12: version 2, and LOCAL or PROXY.
-fn command(kind: Kind) -> u8
-    ensures { λ r. ⌜ r ≡ commandOf kind ⌝ }
-{
-    match kind {
-        Kind::Local => 0x20,
-        Kind::Unspecified => 0x21,
-        Kind::Ip4(_) => 0x21,
-        Kind::Ip6(_) => 0x21,
-        Kind::Unix(_) => 0x21,
-    }
-}
-
-// Puts the sixteen bytes before a block of this size, where they fit: the signature, bytes 12 and 13, and the length.
-pub fn put_head(kind: Kind, size: u16, out: &mut [u8])
-    ensures { λ _. ⌜ now (out .exit) ≡ placed (headOf kind size) 0 (now (out .entry)) ⌝ }
-{
-    let head = [
-        0x0D,
-        0x0A,
-        0x0D,
-        0x0A,
-        0x00,
-        0x0D,
-        0x0A,
-        0x51,
-        0x55,
-        0x49,
-        0x54,
-        0x0A,
-        command(kind),
-        kind_byte(kind),
-        (size / 256) as u8,
-        (size % 256) as u8,
-    ];
-    put(&head, out, 0);
 }
 
 // What is answered for an area and an output of this size: unused bytes or ports that are not zero (11), an area that may not stand there (12), a block

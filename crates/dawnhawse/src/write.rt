@@ -1,6 +1,7 @@
 // The writers of both versions, for C callers.
 ghost use Rattle.record.specs.declared.Record.{Record};
-ghost use Rattle.line_writer.specs.Written.{lineAnswer, writtenLine};
+ghost use Rattle.line_text.specs.LineText.{writtenLine};
+ghost use Rattle.line_writer.specs.Written.{lineAnswer};
 ghost use Rattle.block_writer.specs.Written.{blockAnswer, writtenBlock};
 ghost use Rattle.write_interface.specs.WriteInterface.{WritesAsked};
 

@@ -11,7 +11,7 @@ use native.Mathlib.Omega.{arith}
 use lib.ListN.{length, getD, take, drop, replicate, length-append}
 use lib.Seq.{split-at, length-take-le, take-suc, drop-at}
 use Rattle.exact.specs.Ascii.{ascii}
-use Rattle.exact.specs.Network.{network}
+use Rattle.exact.specs.Network.{network, number, numberAt}
 use Rattle.exact.specs.Claim.{accepted, more, refused, AllBytes}
 use Rattle.exact.specs.Parser.{bytes-back}
 use Rattle.exact.specs.Byte.{zeros}
@@ -112,7 +112,7 @@ tcp6-reached = by-verdict _ highest6 refl
 -- ── the binary block ──
 -- "Bytes 14 and 15: length L, high byte first"
 abbrev pub lengthField : List ℕ → ℕ
-lengthField f = getD f 14 0 * 256 + getD f 15 0
+lengthField f = numberAt f 14
 
 -- "the header has 16 + L bytes"
 pub block-length : (f : List ℕ) (r : Record) (area : List ℕ) → Block f r area → length f ≡ 16 + lengthField f
@@ -130,7 +130,7 @@ length-rule f r area w =
 
 -- "else 8 at place 15", whatever follows
 pub length-refused : (k : Kind) (b h l : ℕ) (t : List ℕ) → b < 256 → h < 256 → l < 256 → family b ≡ some k → HasAddresses k
-    → (h * 256 + l ≡ blockLength k → ⊥) → h * 256 + l < blockLength k + 3 → Judges (refused 8 15) (signature ++ PROXY ∷ b ∷ h ∷ l ∷ t)
+    → (number h l ≡ blockLength k → ⊥) → number h l < blockLength k + 3 → Judges (refused 8 15) (signature ++ PROXY ∷ b ∷ h ∷ l ∷ t)
 length-refused k b h l t small high low table has other few =
     by-verdict (refused 8 15) (signature ++ PROXY ∷ b ∷ h ∷ l ∷ t) (length-verdict k b h l t small high low other few table has)
 

@@ -25,7 +25,8 @@ use Rattle.fields.specs.LineFields.{lined}
 use Rattle.fields.specs.Facts.{longest-tcp4, longest-tcp6}
 use Rattle.answer.specs.Answers.{WriteAnswer, wrote, refuses, outputAfter}
 use Rattle.answer.specs.OutputLaws.{written-front}
-use Rattle.line_writer.specs.Written.{HasForm, unspecified, tcp4, tcp6, hasForm, writtenLine, CarriedByLine, lineAnswer}
+use Rattle.line_text.specs.LineText.{writtenLine}
+use Rattle.line_writer.specs.Written.{HasForm, unspecified, tcp4, tcp6, hasForm, CarriedByLine, lineAnswer}
 use Rattle.line_writer.specs.LineLaws.{line-of, tcp4-line, tcp6-line}
 
 -- the test of a form says what `HasForm` says

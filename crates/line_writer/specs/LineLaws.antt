@@ -22,7 +22,8 @@ use Rattle.header.specs.Line.{TcpLine, Ip6Address, Line}
 use Rattle.fields.specs.Facts.{longest-tcp4, longest-tcp6}
 use Rattle.draft.specs.Decimals.{decimal-text}
 use Rattle.address_text.specs.Addresses.{octetsText, groupsText, groupsOf}
-use Rattle.line_writer.specs.Written.{hasForm, tcpText, lineText, writtenLine}
+use Rattle.line_text.specs.LineText.{tcpText, lineText, writtenLine}
+use Rattle.line_writer.specs.Written.{hasForm}
 use Rattle.address_text.specs.Texts.{octets-text, ip6-text}
 
 -- the address at the front of an array

@@ -17,7 +17,8 @@ use Rattle.lent.specs.PlacedLaws.{placed-then, placed-start}
 use Rattle.record.proofs.InMemory.{in-memory}
 use Rattle.answer.specs.Answers.{WriteAnswer, wrote, toldWritten, outputAfter}
 use Rattle.answer.specs.OutputLaws.{output-refused, is-wrote, output-written}
-use Rattle.block_writer.specs.Written.{headOf, blockOf, writtenBlock, CarriedByBlock, blockAnswer}
+use Rattle.head_writer.specs.Head.{headOf}
+use Rattle.block_writer.specs.Written.{blockOf, writtenBlock, CarriedByBlock, blockAnswer}
 use Rattle.block_writer.proofs.WrittenLaws.{block-length}
 use Rattle.block_writer.specs.Demand.{Means, answer-means, block-accepted, ReadsBack, reads-back}
 use Rattle.block_writer.proofs.write_block.Statement.{statement}

@@ -9,7 +9,8 @@ use lib.ListN.{length}
 use Rattle.record.specs.declared.Record.{Record}
 use Rattle.clean.specs.Unused.{cleanTest}
 use Rattle.answer.specs.Answers.{wrote}
-use Rattle.line_writer.specs.Written.{hasForm, writtenLine}
+use Rattle.line_text.specs.LineText.{writtenLine}
+use Rattle.line_writer.specs.Written.{hasForm}
 use Rattle.line_writer.proofs.check.Statement.{statement}
 use Rattle.line_writer.proofs.check.Tie as tie
 

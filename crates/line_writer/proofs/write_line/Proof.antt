@@ -16,7 +16,8 @@ use Rattle.draft.specs.Drafts.{draftOf}
 use Rattle.draft.specs.DraftLaws.{appended-draft, draft-size, draft-says, draft-room}
 use Rattle.answer.specs.Answers.{WriteAnswer, toldWritten, outputAfter}
 use Rattle.answer.specs.OutputLaws.{output-refused, is-wrote, output-written}
-use Rattle.line_writer.specs.Written.{writtenLine, lineAnswer}
+use Rattle.line_text.specs.LineText.{writtenLine}
+use Rattle.line_writer.specs.Written.{lineAnswer}
 use Rattle.line_writer.specs.LineLaws.{written-fits}
 use Rattle.line_writer.specs.Demand.{Means, answer-means, line-accepted, ReadsBack, reads-back}
 use Rattle.line_writer.proofs.write_line.Statement.{statement}

@@ -4,7 +4,8 @@ use denote.Ref.{now}
 use Rattle.exact.specs.Pick.{pick-by}
 use Rattle.record.specs.declared.Record.{Record}
 use Rattle.clean.specs.Unused.{cleanTest}
-use Rattle.line_writer.specs.Written.{hasForm, lineAnswer, writtenLine}
+use Rattle.line_text.specs.LineText.{writtenLine}
+use Rattle.line_writer.specs.Written.{hasForm, lineAnswer}
 use Rattle.write_interface.proofs.WriteLaws.{Within, fits-at-last, refused, passed-on, part-inside, part-size}
 use borrow.Author.Needs.{needs}
 use Rattle.write_interface.proofs.write_v1.Statement.{statement}

@@ -1,8 +1,8 @@
 -- Each part is put behind the draft.
 use borrow.Author.Needs.{needs}
 use Rattle.draft.specs.DraftLaws.{appended-more}
-use Rattle.line_writer.proofs.tcp_line.Statement.{statement}
-use Rattle.line_writer.proofs.tcp_line.Tie as tie
+use Rattle.line_text.proofs.tcp_line.Statement.{statement}
+use Rattle.line_text.proofs.tcp_line.Tie as tie
 
 returns : tie.Need-returns
 returns c =

@@ -7,8 +7,8 @@ use denote.Ref.{now}
 use Rattle.exact.specs.Network.{network}
 use Rattle.header.specs.Block.{signature}
 use Rattle.lent.specs.Placed.{placed}
-use Rattle.block_writer.proofs.put_head.Statement.{statement}
-use Rattle.block_writer.proofs.put_head.Tie as tie
+use Rattle.head_writer.proofs.put_head.Statement.{statement}
+use Rattle.head_writer.proofs.put_head.Tie as tie
 
 returns : tie.Need-returns
 returns c =

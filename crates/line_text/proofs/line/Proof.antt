@@ -1,9 +1,9 @@
 -- Each arm composes the line of its kind.
 use borrow.Author.Needs.{needs}
 use Rattle.draft.specs.Drafts.{appended}
-use Rattle.line_writer.specs.Written.{writtenLine}
-use Rattle.line_writer.proofs.line.Statement.{statement}
-use Rattle.line_writer.proofs.line.Tie as tie
+use Rattle.line_text.specs.LineText.{writtenLine}
+use Rattle.line_text.proofs.line.Statement.{statement}
+use Rattle.line_text.proofs.line.Tie as tie
 
 returns : tie.Need-returns
 unfolding appended writtenLine
