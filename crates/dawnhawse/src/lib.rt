@@ -1,5 +1,5 @@
-// The C library: the readers and writers for C callers, over numbers and bytes (include/dawnhawse.h).
-// No public function has a `requires`.
+// The C library: the readers and writers for C callers, over numbers and bytes (include/dawnhawse.h). A static library exports the functions of
+// its own crate only, so each stands here and passes on to `read_interface`, `write_interface` or `tlv_interface`. No public function has a `requires`.
 mod read;
 mod stored;
 mod tlvs;
