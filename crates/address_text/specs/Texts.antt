@@ -8,12 +8,12 @@ use lib.Dec.{ltb}
 use lib.ListN.{length}
 use borrow.Author.Tests.{ltb-true, ltb-false}
 use Rattle.exact.specs.Claim.{AllBytes}
-use Rattle.exact.specs.Network.{number as numberOf}
+use Rattle.exact.specs.Network.{number}
 use Rattle.exact.specs.Pick.{pick-by}
 use Rattle.decimal.specs.Decimal.{Plain}
 use Rattle.ip4.specs.Ip4.{Address as Ip4Address}
 use Rattle.hex.specs.Hex.{hexOf}
-use Rattle.ip6.specs.Address.{HexDigits, number, Group, Groups, Address as Ip6Text}
+use Rattle.ip6.specs.Address.{HexDigits, hexNumber, Group, Groups, Address as Ip6Text}
 use Rattle.hex.specs.HexLaws.{hex-decimal, hex-lower}
 use Rattle.ip6.specs.Bounds.{AllWords}
 use Rattle.header.specs.Line.{groupBytes, Ip6Address}
@@ -43,7 +43,7 @@ group-text n small =
           (λ d few. let e = hex-digit d few in omega arith) n;
       some = some-digit (hexText n) (numeral-plain 16 (omega arith) n);
       few = numeral-length 16 (omega arith) 3 n (omega arith);
-      value = numeral-value 16 (omega arith) hexOf number (λ m. refl) (λ m c f. refl) hex-digit n;
+      value = numeral-value 16 (omega arith) hexOf hexNumber (λ m. refl) (λ m c f. refl) hex-digit n;
     }
 
 -- ── IPv4 ──
@@ -93,8 +93,8 @@ groups-bytes (suc n) (h ∷ l ∷ bytes) size small =
     let high = small .0 in
     let low = small .1 .0 in
     let rest = groups-bytes n bytes (omega arith) (small .1 .1) in
-    let a : h ≡ numberOf h l / 256 = omega arith in
-    let b : l ≡ numberOf h l % 256 = omega arith in
+    let a : h ≡ number h l / 256 = omega arith in
+    let b : l ≡ number h l % 256 = omega arith in
     ((omega arith, rest .0), ap₂ (λ (x : ℕ) (t : List ℕ). x ∷ t) a (ap₂ (λ (x : ℕ) (t : List ℕ). x ∷ t) b (rest .1)))
 
 -- the sixteen bytes of an address

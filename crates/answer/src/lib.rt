@@ -100,7 +100,7 @@ pub fn refused(refusal: Refusal, place: usize) -> Seen
 }
 
 // Document 01's number of a refusal.
-pub fn number(refusal: Refusal) -> u8
+pub fn refusal_number(refusal: Refusal) -> u8
     ensures { λ r. ⌜ r ≡ numberOf refusal ⌝ }
 {
     match refusal {

@@ -18,7 +18,7 @@ use Rattle.ip4.specs.Ip4.{Address as Ip4Address}
 use Rattle.ip4.specs.Ip4Leaf.{ip4}
 use Rattle.ip6.specs.Parser.{ip6, space-ends}
 use Rattle.header.specs.Line.{Ip6Address, groupBytes, Line}
-use Rattle.header.specs.Header.{Header, Whole, number}
+use Rattle.header.specs.Header.{Header, Whole, placeNumber}
 use Rattle.header.specs.Demand.{Judges}
 use Rattle.fields.specs.LineMembers.{line-same, Lined}
 use Rattle.fields.specs.LineFields.{line}
@@ -109,9 +109,9 @@ whole-bytes : (f : List ℕ) (h : Header) → Whole f h → AllBytes f
 whole-bytes f h w = header .bytes f h (members f h .1 w)
 
 -- and it numbers its places as document 01's table does
-numbered : Numbered number (header .field) []
+numbered : Numbered placeNumber (header .field) []
 numbered =
-    numbered-either number isP lineField block line-starts block-starts []
+    numbered-either placeNumber isP lineField block line-starts block-starts []
     (numbered-line Ip4Address Ip6Address address4 address6 field4 field6) numbered-block
 
 -- the verdict on the bytes so far, as a function
@@ -120,20 +120,20 @@ verdict s = header .verdict s
 
 -- its every answer is one that demand 3 allows
 pub judges : (s : List ℕ) → Judges (verdict s) s
-judges = claim-holds Whole number whole-bytes header members numbered
+judges = claim-holds Whole placeNumber whole-bytes header members numbered
 
 -- demand 3 allows no other
 pub judges-only : (v : Verdict Header) (s : List ℕ) → Judges v s → v ≡ verdict s
-judges-only = claim-only Whole number whole-bytes header members numbered
+judges-only = claim-only Whole placeNumber whole-bytes header members numbered
 
 -- "Bytes added behind accepted or refused ones change nothing"
 pub judges-stays : (v : Verdict Header) (s t : List ℕ) → (v ≡ more → ⊥) → Judges v s → Judges v (s ++ t)
-judges-stays = claim-stays Whole number whole-bytes header members numbered
+judges-stays = claim-stays Whole placeNumber whole-bytes header members numbered
 
 -- a whole header says one thing, and begins no other
 pub one-header : (f g x y : List ℕ) (a b : Header) → f ++ x ≡ g ++ y → Whole f a → Whole g b → (g ≡ f) × (b ≡ a)
-one-header = whole-only Whole number whole-bytes header members numbered
+one-header = whole-only Whole placeNumber whole-bytes header members numbered
 
 -- no continuation needs a number of 256 or more
 pub bytes-enough : (s t : List ℕ) (n : ℕ) (h : Header) → Heads Whole n h (s ++ t) → Live Whole s
-bytes-enough = bytes-suffice Whole number whole-bytes
+bytes-enough = bytes-suffice Whole placeNumber whole-bytes

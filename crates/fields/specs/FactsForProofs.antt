@@ -12,7 +12,7 @@ use lib.ListN.{length, getD, take, drop, replicate, length-append, drop-of-lengt
 use lib.Seq.{split-at, length-take-le, take-append-add, take-at, drop-at, take-length, append-snoc}
 use borrow.Author.Tests.{eqb-true, ne-eqb, lt-leb, lt-ltb, ltb-true, ltb-false}
 use Rattle.exact.specs.Ascii.{ascii}
-use Rattle.exact.specs.Network.{network}
+use Rattle.exact.specs.Network.{network, number, numberAt}
 use Rattle.exact.specs.Claim.{Verdict, accepted, more, refused, AllBytes, Live}
 use Rattle.exact.specs.Field.{after, shift}
 use Rattle.exact.specs.Machine.{Move, done, dead, moved, run}
@@ -29,7 +29,7 @@ use Rattle.record.specs.Kinds.{family, addressLength, blockLength}
 use Rattle.record.specs.Records.{held, recordOf, bare, PortFits, Clean}
 use Rattle.header.specs.Line.{groupBytes, TcpLine, Line}
 use Rattle.header.specs.Block.{signature, LOCAL, PROXY, Framed, HasAddresses, portBytes, Addresses, Block}
-use Rattle.header.specs.Header.{Header, Whole, number, blockNumber, lineNumber, partsEnded}
+use Rattle.header.specs.Header.{Header, Whole, placeNumber, blockNumber, lineNumber, partsEnded}
 use Rattle.header.specs.Demand.{Judges}
 use Rattle.fields.specs.LineFields.{lined, restField}
 use Rattle.fields.specs.BlockMembers.{addresses-length}
@@ -42,7 +42,7 @@ by-verdict v s e = subst (λ (w : Verdict Header). Judges w s) e (judges s)
 -- ── lengths ──
 -- the length in bytes 14 and 15 is the block's, and the header has 16 bytes more
 pub framed-length : (c b : ℕ) (block f : List ℕ) → Framed c b block f
-    → (getD f 14 0 * 256 + getD f 15 0 ≡ length block) × (length f ≡ 16 + length block) × (length block < 65536)
+    → (numberAt f 14 ≡ length block) × (length f ≡ 16 + length block) × (length block < 65536)
 framed-length c b block f w = (rw (w .split) (omega arith), rw (w .split) (omega arith), w .small)
 
 tcp-least : (word : List ℕ) (kind : Kind) (Address : List ℕ → List ℕ → Type 0) (f : List ℕ) (r : Record) → TcpLine word kind Address f r
@@ -58,7 +58,7 @@ line-least f r (inr (inr l)) = let h = tcp-least _ _ _ f r l in omega arith
 
 -- a block has 16 bytes and as many as the length in bytes 14 and 15 says
 pub block-bounds : (f : List ℕ) (r : Record) (area : List ℕ) → Block f r area
-    → (length f ≡ 16 + (getD f 14 0 * 256 + getD f 15 0)) × (length f ≤ 65551)
+    → (length f ≡ 16 + (numberAt f 14)) × (length f ≤ 65551)
 block-bounds f r area (inl w) = let h = framed-length _ _ _ f (w .0 .framed) in omega arith
 block-bounds f r area (inr (inl w)) = let h = framed-length _ _ _ f (w .0 .framed) in omega arith
 block-bounds f r area (inr (inr w)) = let h = framed-length _ _ _ f (w .framed) in omega arith
@@ -167,7 +167,7 @@ line-five u =
     pick-by P (ltb n 2) (λ t. omega arith)
     (λ t. pick-by P (ltb n 4) (λ t. omega arith) (λ t. pick-by P (ltb n 6) (λ t. omega arith) (λ t. omega arith)))))
 
-pub number-eight : (u : List ℕ) → 8 ≡ number u → (getD u 0 0 ≡ 13) × (14 ≤ length u) × (length u ≤ 15)
+pub number-eight : (u : List ℕ) → 8 ≡ placeNumber u → (getD u 0 0 ≡ 13) × (14 ≤ length u) × (length u ≤ 15)
 number-eight u =
     pick-by (λ (k : ℕ). 8 ≡ k → (getD u 0 0 ≡ 13) × (14 ≤ length u) × (length u ≤ 15)) (eqb (getD u 0 0) 13)
     (λ t e. let h = block-eight (length u) e in (eqb-true (getD u 0 0) 13 t, h .0, h .1))
@@ -207,7 +207,7 @@ module _ (k : Kind) where
       }
 
   -- with the high byte h, a length of this block and of TLVs behind it
-  some-length : (h : ℕ) → (l : ℕ) × (l < 256) × (n : ℕ) × Fillable n × (blockLength k + n ≡ h * 256 + l)
+  some-length : (h : ℕ) → (l : ℕ) × (l < 256) × (n : ℕ) × Fillable n × (blockLength k + n ≡ number h l)
   some-length zero = let a = block-small k in (blockLength k, omega arith, 0, inl refl, omega arith)
   some-length (suc m) = let a = block-small k in (0, omega arith, suc m * 256 - blockLength k, inr (omega arith), omega arith)
 
@@ -223,7 +223,7 @@ record Onward (f : List ℕ) (h : ℕ) : Type 0 where
 
 module _ (f : List ℕ) (h : ℕ) (high : h < 256) where
   -- by a block of the length that has the bytes h and l
-  onward-by : (c b l : ℕ) (old new : List ℕ) (says : Header) → Framed c b old f → l < 256 → length new ≡ h * 256 + l
+  onward-by : (c b l : ℕ) (old new : List ℕ) (says : Header) → Framed c b old f → l < 256 → length new ≡ number h l
       → ((g : List ℕ) → Framed c b new g → Whole g says) → Onward f h
   onward-by c b l old new says framed low size whole =
       let bytes : h ∷ l ∷ [] ≡ network (length new) = ap₂ (λ (x y : ℕ). x ∷ y ∷ []) (omega arith) (omega arith) in
@@ -314,12 +314,12 @@ family-addressed (Ip6 t) s has = refl
 family-addressed (Unix t) s has = refl
 
 module _ (k : Kind) (b h l : ℕ) (t : List ℕ) (small : b < 256) (high : h < 256) (low : l < 256)
-    (other : h * 256 + l ≡ blockLength k → ⊥) (few : h * 256 + l < blockLength k + 3)
+    (other : number h l ≡ blockLength k → ⊥) (few : number h l < blockLength k + 3)
   where
     low-refused : addressed k .verdict (h ∷ l ∷ t) ≡ refused 8 1
     low-refused =
-        let unfit : fits (blockLength k) (h * 256 + l) ≡ false =
-        simp (ne-eqb (h * 256 + l) (blockLength k) other, lt-leb (blockLength k + 3) (h * 256 + l) few)
+        let unfit : fits (blockLength k) (number h l) ≡ false =
+        simp (ne-eqb (number h l) (blockLength k) other, lt-leb (blockLength k + 3) (number h l) few)
         in
         simp (lt-ltb h 256 high, lt-ltb l 256 low, unfit)
 

@@ -19,6 +19,7 @@ use Rattle.exact.specs.Literal.{Literal}
 use Rattle.exact.specs.Byte.{OneByte, count}
 use Rattle.exact.specs.Number.{any, Number, number16}
 use Rattle.exact.specs.Numbered.{Numbered, numbered-just, numbered-leaf, numbered-text, numbered-then, numbered-either}
+use Rattle.exact.specs.Network.{number}
 use Rattle.decimal.specs.Decimal.{Digits, Decimal}
 use Rattle.ip4.specs.Ip4.{Address as Ip4Address}
 use Rattle.line_end.specs.LineLeaf.{LineEnd}
@@ -33,7 +34,7 @@ use Rattle.record.specs.Records.{recordOf, bare}
 use Rattle.record.specs.declared.Transport.the-variants.{Stream}
 use Rattle.header.specs.Line.{Ip6Address}
 use Rattle.header.specs.Block.{signature}
-use Rattle.header.specs.Header.{Header, number, partsEnded, tcpNumber, unknownNumber, blockNumber}
+use Rattle.header.specs.Header.{Header, placeNumber, partsEnded, tcpNumber, unknownNumber, blockNumber}
 use Rattle.fields.specs.LineFields.{lined, proxyWord, unknownWord, tcpWord, familyWord, crField, spaceField, restField, lfField, unknownEnd, lineFeed, sourcePort, destinationPort, fromDestinationPort, fromSourcePort, fromDestination, fromSource, tcp, shortEnd, longEnd, isCr, is4, isU, short-starts, long-starts, unknown, tcp4, tcp6, starts4, starts6, tcps, unknown-starts, tcps-starts, line}
 use Rattle.fields.specs.BlockFields.{blocked, Command, local, proxy, commandOf, command, always, skipped, fits, port, tlvs, fit-opens, addresses, addressed, familyRest, familyField, anyByte, commandRest, signatureField, block}
 
@@ -54,7 +55,7 @@ nine n h =
     let c : 14 ≤ n = omega arith in
     simp (le-ltb n 12 a, le-ltb n 13 b, le-ltb n 14 c, le-ltb n 16 h)
 
-behind-nine : (before : List ℕ) → Behind before → 9 ≡ number before
+behind-nine : (before : List ℕ) → Behind before → 9 ≡ placeNumber before
 behind-nine before h = nine (length before) (h .1) ∙ sym (simp (eq-eqb (getD before 0 0) 13 (h .0)))
 
 -- every place of the field is numbered 9
@@ -65,7 +66,7 @@ nine-seq : {A B : Type 0} (F : Field A) (G : A → Field B) → AllNine F → ((
 nine-seq F G x y u k (inl p) = x u k (p .1)
 nine-seq F G x y u k (inr p) = y (p .mid) (p .back) k (p .part)
 
-numbered-nine : {A : Type 0} (F : Field A) (before : List ℕ) → AllNine F → Behind before → Numbered number F before
+numbered-nine : {A : Type 0} (F : Field A) (before : List ℕ) → AllNine F → Behind before → Numbered placeNumber F before
 numbered-nine F before all h u k o none p = all u k p ∙ behind-nine (before ++ u) (behind-more before u h)
 
 -- one byte, and the two bytes of a number: what is before them tells
@@ -74,10 +75,10 @@ one-prefix [] c t b e = refl
 one-prefix (x ∷ []) c t b e = let z : _≡_ {A = ℕ} 0 1 = cc in absurd (omega arith)
 one-prefix (x ∷ y ∷ u) c t b e = let z : _≡_ {A = ℕ} 0 1 = cc in absurd (omega arith)
 
-numbered-byte : {A : Type 0} (table : ℕ → Option A) (k : ℕ) (before : List ℕ) → k ≡ number before → Numbered number (leaf k (OneByte table)) before
+numbered-byte : {A : Type 0} (table : ℕ → Option A) (k : ℕ) (before : List ℕ) → k ≡ placeNumber before → Numbered placeNumber (leaf k (OneByte table)) before
 numbered-byte table k before e =
-    numbered-leaf number k (OneByte table) before
-    (λ u c t a l. e ∙ ap number (sym (append-nil before) ∙ ap (λ (x : List ℕ). before ++ x) (sym (one-prefix u c t (l .byte) (l .split)))))
+    numbered-leaf placeNumber k (OneByte table) before
+    (λ u c t a l. e ∙ ap placeNumber (sym (append-nil before) ∙ ap (λ (x : List ℕ). before ++ x) (sym (one-prefix u c t (l .byte) (l .split)))))
 
 two-prefix : (u : List ℕ) (c : ℕ) (t : List ℕ) (a b : ℕ) → u ++ c ∷ t ≡ a ∷ b ∷ [] → (u ≡ []) ⊎ (u ≡ a ∷ [])
 two-prefix [] c t a b e = inl refl
@@ -90,10 +91,10 @@ module _ (c b : ℕ) where
   abbrev fourteen : List ℕ
   fourteen = signature ++ c ∷ b ∷ []
 
-  numbered-length : (good : ℕ → Bool) → Numbered number (leaf 8 (Number good)) fourteen
-  numbered-length good = numbered-leaf number 8 (Number good) fourteen (λ u d t n l. by u n (two-prefix u d t (n / 256) (n % 256) (l .split)))
+  numbered-length : (good : ℕ → Bool) → Numbered placeNumber (leaf 8 (Number good)) fourteen
+  numbered-length good = numbered-leaf placeNumber 8 (Number good) fourteen (λ u d t n l. by u n (two-prefix u d t (n / 256) (n % 256) (l .split)))
     where
-      by : (u : List ℕ) (n : ℕ) → (u ≡ []) ⊎ (u ≡ n / 256 ∷ []) → 8 ≡ number (fourteen ++ u)
+      by : (u : List ℕ) (n : ℕ) → (u ≡ []) ⊎ (u ≡ n / 256 ∷ []) → 8 ≡ placeNumber (fourteen ++ u)
       by u n (inl e) = rw e
       by u n (inr e) = rw e
 
@@ -101,13 +102,13 @@ module _ (c b : ℕ) where
   behind-length good f n l = (refl, rw (l .split) (omega arith))
 
   -- the length, and then what is numbered 9
-  numbered-rest : {B : Type 0} (good : ℕ → Bool) (opens : (h : ℕ) → (d : ℕ) × (d < 256) × (good (h * 256 + d) ≡ true)) (Q : ℕ → Parser B)
-      → ((n : ℕ) → AllNine (Q n .field)) → Numbered number ((number16 good 8 opens then Q) .field) fourteen
+  numbered-rest : {B : Type 0} (good : ℕ → Bool) (opens : (h : ℕ) → (d : ℕ) × (d < 256) × (good (number h d) ≡ true)) (Q : ℕ → Parser B)
+      → ((n : ℕ) → AllNine (Q n .field)) → Numbered placeNumber ((number16 good 8 opens then Q) .field) fourteen
   numbered-rest good opens Q nines =
-      numbered-then number (number16 good 8 opens) Q fourteen (numbered-length good)
+      numbered-then placeNumber (number16 good 8 opens) Q fourteen (numbered-length good)
       (λ n f l. numbered-nine (Q n .field) (fourteen ++ f) (nines n) (behind-length good f n l))
 
-  numbered-skipped : (r : Record) → Numbered number (skipped r .field) fourteen
+  numbered-skipped : (r : Record) → Numbered placeNumber (skipped r .field) fourteen
   numbered-skipped r =
       numbered-rest always (λ h. (0, (omega arith), refl)) (λ n. count 9 n then λ u. just (blocked r []))
       (λ n. nine-seq _ _ (λ u k p. p) (λ a u k p. absurd p))
@@ -123,7 +124,7 @@ module _ (c b : ℕ) where
   nine-area a n true u j p = absurd p
   nine-area a n false u j p = p
 
-  numbered-addressed : (k : Kind) → Numbered number (addressed k .field) fourteen
+  numbered-addressed : (k : Kind) → Numbered placeNumber (addressed k .field) fourteen
   numbered-addressed k =
       numbered-rest (fits (blockLength k)) (fit-opens k) (addresses k)
       (λ n.
@@ -134,29 +135,29 @@ module _ (c b : ℕ) where
       nine-seq _ _ (nine-port k)
       (λ p. nine-seq _ _ (nine-port k) (λ q. nine-seq _ _ (nine-area (blockLength k) n (eqb n (blockLength k))) (λ a u j x. absurd x))))))
 
-  numbered-family : (k : Kind) → Numbered number (familyRest k .field) fourteen
+  numbered-family : (k : Kind) → Numbered placeNumber (familyRest k .field) fourteen
   numbered-family Local = numbered-skipped (bare Local)
   numbered-family Unspecified = numbered-skipped (bare Unspecified)
   numbered-family (Ip4 t) = numbered-addressed (Ip4 t)
   numbered-family (Ip6 t) = numbered-addressed (Ip6 t)
   numbered-family (Unix t) = numbered-addressed (Unix t)
 
-numbered-command : (x : Command) (c : ℕ) → Numbered number (commandRest x .field) (signature ++ c ∷ [])
+numbered-command : (x : Command) (c : ℕ) → Numbered placeNumber (commandRest x .field) (signature ++ c ∷ [])
 numbered-command local c =
-    numbered-then number anyByte (λ b. skipped (bare Local)) (signature ++ c ∷ []) (numbered-byte any 7 (signature ++ c ∷ []) refl)
-    (λ b f l. subst (λ (t : List ℕ). Numbered number (skipped (bare Local) .field) (signature ++ c ∷ [] ++ t)) (sym (l .split)) (numbered-skipped c (l .byte) (bare Local)))
+    numbered-then placeNumber anyByte (λ b. skipped (bare Local)) (signature ++ c ∷ []) (numbered-byte any 7 (signature ++ c ∷ []) refl)
+    (λ b f l. subst (λ (t : List ℕ). Numbered placeNumber (skipped (bare Local) .field) (signature ++ c ∷ [] ++ t)) (sym (l .split)) (numbered-skipped c (l .byte) (bare Local)))
 numbered-command proxy c =
-    numbered-then number familyField familyRest (signature ++ c ∷ []) (numbered-byte family 7 (signature ++ c ∷ []) refl)
-    (λ k f l. subst (λ (t : List ℕ). Numbered number (familyRest k .field) (signature ++ c ∷ [] ++ t)) (sym (l .split)) (numbered-family c (l .byte) k))
+    numbered-then placeNumber familyField familyRest (signature ++ c ∷ []) (numbered-byte family 7 (signature ++ c ∷ []) refl)
+    (λ k f l. subst (λ (t : List ℕ). Numbered placeNumber (familyRest k .field) (signature ++ c ∷ [] ++ t)) (sym (l .split)) (numbered-family c (l .byte) k))
 
-pub numbered-block : Numbered number (block .field) []
+pub numbered-block : Numbered placeNumber (block .field) []
 numbered-block =
-    numbered-then number signatureField (λ u. command then commandRest) []
-    (numbered-text number 1 0 0x0D (0x0A ∷ 0x0D ∷ 0x0A ∷ 0x00 ∷ 0x0D ∷ 0x0A ∷ 0x51 ∷ 0x55 ∷ 0x49 ∷ 0x54 ∷ 0x0A ∷ []) (omega arith) [] refl)
+    numbered-then placeNumber signatureField (λ u. command then commandRest) []
+    (numbered-text placeNumber 1 0 0x0D (0x0A ∷ 0x0D ∷ 0x0A ∷ 0x00 ∷ 0x0D ∷ 0x0A ∷ 0x51 ∷ 0x55 ∷ 0x49 ∷ 0x54 ∷ 0x0A ∷ []) (omega arith) [] refl)
     (λ u f l.
-    subst (Numbered number ((command then commandRest) .field)) (sym (l .0))
-    (numbered-then number command commandRest signature (numbered-byte commandOf 6 signature refl)
-    (λ x g m. subst (λ (t : List ℕ). Numbered number (commandRest x .field) (signature ++ t)) (sym (m .split)) (numbered-command x (m .byte)))))
+    subst (Numbered placeNumber ((command then commandRest) .field)) (sym (l .0))
+    (numbered-then placeNumber command commandRest signature (numbered-byte commandOf 6 signature refl)
+    (λ x g m. subst (λ (t : List ℕ). Numbered placeNumber (commandRest x .field) (signature ++ t)) (sym (m .split)) (numbered-command x (m .byte)))))
 
 -- ── version 1: how many parts have ended ──
 ended-append : (u v : List ℕ) → partsEnded (u ++ v) ≡ partsEnded u + partsEnded v
@@ -194,16 +195,16 @@ tcp-more before f n m w e =
       ended = ended-append before f ∙ ap₂ _+_ (w .ended) e;
     }
 
-tcp-number : (before : List ℕ) (n : ℕ) → Tcp before n → number before ≡ tcpNumber n
+tcp-number : (before : List ℕ) (n : ℕ) → Tcp before n → placeNumber before ≡ tcpNumber n
 tcp-number before n w =
     let a : getD before 0 0 ≡ 13 → ⊥ = let h = w .first in omega arith in
     let b : getD before 6 0 ≡ 85 → ⊥ = let h = w .seventh in omega arith in
     simp (ne-eqb (getD before 0 0) 13 a, ne-eqb (getD before 6 0) 85 b, w .ended)
 
 module _ {A : Type 0} (L : List ℕ → A → Type 0) (end : ℕ) (clear : Clear L) (marks : partsEnded (end ∷ []) ≡ 1) where
-  pub numbered-ended : (k : ℕ) (before : List ℕ) (n : ℕ) → Tcp before n → k ≡ tcpNumber n → Numbered number (leaf k (Ended L end)) before
+  pub numbered-ended : (k : ℕ) (before : List ℕ) (n : ℕ) → Tcp before n → k ≡ tcpNumber n → Numbered placeNumber (leaf k (Ended L end)) before
   numbered-ended k before n w e =
-      numbered-leaf number k (Ended L end) before
+      numbered-leaf placeNumber k (Ended L end) before
       (λ u c t a l.
       let none = clear-prefix u c t (l .text) end (l .split) (clear (l .text) a (l .whole)) in
       let here = tcp-more before u n 0 w none in
@@ -262,15 +263,15 @@ ip6-clear f a l = spelt-clear f (address-bounds f (l .groups) (l .text) .spelt)
 -- what an address field has to be, for a TCP line
 pub record AddressField (Address : List ℕ → List ℕ → Type 0) (address : Parser (List ℕ)) : Type 0 where
   pub same : (f a : List ℕ) → address .field .lang f a ↔ Ended Address 32 f a
-  pub numbered : (before : List ℕ) (n : ℕ) → Tcp before n → 3 ≡ tcpNumber n → Numbered number (address .field) before
+  pub numbered : (before : List ℕ) (n : ℕ) → Tcp before n → 3 ≡ tcpNumber n → Numbered placeNumber (address .field) before
   pub clear : Clear Address
 
-numbered-feed : (h : Header) (before : List ℕ) → 5 ≡ number before → Numbered number (lineFeed h .field) before
+numbered-feed : (h : Header) (before : List ℕ) → 5 ≡ placeNumber before → Numbered placeNumber (lineFeed h .field) before
 numbered-feed h before e =
-    numbered-then number lfField (λ x. just h) before
-    (numbered-leaf number 5 (Literal 0 (10 ∷ [])) before
-    (λ u c t a l. e ∙ ap number (sym (append-nil before) ∙ ap (λ (x : List ℕ). before ++ x) (sym (one-prefix u c t 10 (l .0))))))
-    (λ a f l. numbered-just number h (before ++ f))
+    numbered-then placeNumber lfField (λ x. just h) before
+    (numbered-leaf placeNumber 5 (Literal 0 (10 ∷ [])) before
+    (λ u c t a l. e ∙ ap placeNumber (sym (append-nil before) ∙ ap (λ (x : List ℕ). before ++ x) (sym (one-prefix u c t 10 (l .0))))))
+    (λ a f l. numbered-just placeNumber h (before ++ f))
 
 module _ (kind : Kind) (Address : List ℕ → List ℕ → Type 0) (address : Parser (List ℕ)) (field : AddressField Address address) where
   address-one : (f a : List ℕ) → address .field .lang f a → partsEnded f ≡ 1
@@ -278,30 +279,30 @@ module _ (kind : Kind) (Address : List ℕ → List ℕ → Type 0) (address : P
 
   -- behind "PROXY TCP4 " or "PROXY TCP6 "
   numbered-parts : (before : List ℕ) → Tcp before 2
-      → Numbered number (fromSource kind address .field) before
+      → Numbered placeNumber (fromSource kind address .field) before
   numbered-parts before w =
-      numbered-then number address (fromDestination kind address) before (field .numbered before 2 w refl)
+      numbered-then placeNumber address (fromDestination kind address) before (field .numbered before 2 w refl)
       (λ from f₁ l₁.
       let w₁ = tcp-more before f₁ 2 1 w (address-one f₁ from l₁) in
-      numbered-then number address (fromSourcePort kind from) (before ++ f₁) (field .numbered (before ++ f₁) 3 w₁ refl)
+      numbered-then placeNumber address (fromSourcePort kind from) (before ++ f₁) (field .numbered (before ++ f₁) 3 w₁ refl)
       (λ to f₂ l₂.
       let w₂ = tcp-more (before ++ f₁) f₂ 3 1 w₁ (address-one f₂ to l₂) in
-      numbered-then number sourcePort (fromDestinationPort kind from to) (before ++ f₁ ++ f₂)
+      numbered-then placeNumber sourcePort (fromDestinationPort kind from to) (before ++ f₁ ++ f₂)
       (numbered-ended (Decimal 65535) 32 (decimal-clear 65535) refl 4 (before ++ f₁ ++ f₂) 4 w₂ refl)
       (λ p f₃ l₃.
       let w₃ = tcp-more (before ++ f₁ ++ f₂) f₃ 4 1 w₂ (ended-one (Decimal 65535) 32 (decimal-clear 65535) refl f₃ p l₃) in
-      numbered-then number destinationPort (λ q. lineFeed (lined (recordOf kind from to p q))) (before ++ f₁ ++ f₂ ++ f₃)
+      numbered-then placeNumber destinationPort (λ q. lineFeed (lined (recordOf kind from to p q))) (before ++ f₁ ++ f₂ ++ f₃)
       (numbered-ended (Decimal 65535) 13 (decimal-clear 65535) refl 4 (before ++ f₁ ++ f₂ ++ f₃) 5 w₃ refl)
       (λ q f₄ l₄.
       let w₄ = tcp-more (before ++ f₁ ++ f₂ ++ f₃) f₄ 5 1 w₃ (ended-one (Decimal 65535) 13 (decimal-clear 65535) refl f₄ q l₄) in
       numbered-feed _ (before ++ f₁ ++ f₂ ++ f₃ ++ f₄) (sym (tcp-number _ 6 w₄))))))
 
-  numbered-tcp : (x : ℕ) (small : x < 256) → x ≡ 52 ⊎ x ≡ 54 → Numbered number (tcp x small kind address .field) (ascii "PROXY TCP")
+  numbered-tcp : (x : ℕ) (small : x < 256) → x ≡ 52 ⊎ x ≡ 54 → Numbered placeNumber (tcp x small kind address .field) (ascii "PROXY TCP")
   numbered-tcp x small digit =
-      numbered-then number (familyWord x small) (λ u. fromSource kind address) (ascii "PROXY TCP")
-      (numbered-text number 2 0 x (32 ∷ []) (small, (omega arith, tt)) (ascii "PROXY TCP") (⊎-elim (λ e. rw e) (λ e. rw e) digit))
+      numbered-then placeNumber (familyWord x small) (λ u. fromSource kind address) (ascii "PROXY TCP")
+      (numbered-text placeNumber 2 0 x (32 ∷ []) (small, (omega arith, tt)) (ascii "PROXY TCP") (⊎-elim (λ e. rw e) (λ e. rw e) digit))
       (λ u f l.
-      subst (λ (t : List ℕ). Numbered number (fromSource kind address .field) (ascii "PROXY TCP" ++ t)) (sym (l .0))
+      subst (λ (t : List ℕ). Numbered placeNumber (fromSource kind address .field) (ascii "PROXY TCP" ++ t)) (sym (l .0))
       (numbered-parts (ascii "PROXY TCP" ++ x ∷ 32 ∷ [])
       (record { long = omega arith; first = refl; seventh = refl; ended = ⊎-elim (λ e. rw e) (λ e. rw e) digit })))
 
@@ -309,43 +310,43 @@ module _ (kind : Kind) (Address : List ℕ → List ℕ → Type 0) (address : P
 five : (n : ℕ) → 2 ≤ n → 5 ≡ unknownNumber n
 five n h = let a : 1 ≤ n = omega arith in simp (le-ltb n 1 a, le-ltb n 2 h)
 
-numbered-unknown : Numbered number (unknown .field) (ascii "PROXY ")
+numbered-unknown : Numbered placeNumber (unknown .field) (ascii "PROXY ")
 numbered-unknown =
-    numbered-then number unknownWord (λ x. unknownEnd) (ascii "PROXY ")
-    (numbered-text number 2 0 85 (ascii "NKNOWN") (omega arith) (ascii "PROXY ") refl)
+    numbered-then placeNumber unknownWord (λ x. unknownEnd) (ascii "PROXY ")
+    (numbered-text placeNumber 2 0 85 (ascii "NKNOWN") (omega arith) (ascii "PROXY ") refl)
     (λ x f l.
-    subst (λ (t : List ℕ). Numbered number (unknownEnd .field) (ascii "PROXY " ++ t)) (sym (l .0))
-    (numbered-either number isCr shortEnd longEnd short-starts long-starts (ascii "PROXY UNKNOWN")
-    (numbered-then number crField (λ y. lineFeed (lined (bare Unspecified))) (ascii "PROXY UNKNOWN")
-    (numbered-text number 2 0 13 [] (omega arith) (ascii "PROXY UNKNOWN") refl)
+    subst (λ (t : List ℕ). Numbered placeNumber (unknownEnd .field) (ascii "PROXY " ++ t)) (sym (l .0))
+    (numbered-either placeNumber isCr shortEnd longEnd short-starts long-starts (ascii "PROXY UNKNOWN")
+    (numbered-then placeNumber crField (λ y. lineFeed (lined (bare Unspecified))) (ascii "PROXY UNKNOWN")
+    (numbered-text placeNumber 2 0 13 [] (omega arith) (ascii "PROXY UNKNOWN") refl)
     (λ y g m.
-    subst (λ (t : List ℕ). Numbered number (lineFeed (lined (bare Unspecified)) .field) (ascii "PROXY UNKNOWN" ++ t)) (sym (m .0))
+    subst (λ (t : List ℕ). Numbered placeNumber (lineFeed (lined (bare Unspecified)) .field) (ascii "PROXY UNKNOWN" ++ t)) (sym (m .0))
     (numbered-feed _ (ascii "PROXY UNKNOWN\r") refl)))
-    (numbered-then number spaceField (λ y. restField then λ z. just (lined (bare Unspecified))) (ascii "PROXY UNKNOWN")
-    (numbered-text number 2 0 32 [] (omega arith) (ascii "PROXY UNKNOWN") refl)
+    (numbered-then placeNumber spaceField (λ y. restField then λ z. just (lined (bare Unspecified))) (ascii "PROXY UNKNOWN")
+    (numbered-text placeNumber 2 0 32 [] (omega arith) (ascii "PROXY UNKNOWN") refl)
     (λ y g m.
-    subst (λ (t : List ℕ). Numbered number ((restField then λ z. just (lined (bare Unspecified))) .field) (ascii "PROXY UNKNOWN" ++ t)) (sym (m .0))
-    (numbered-then number restField (λ z. just (lined (bare Unspecified))) (ascii "PROXY UNKNOWN ")
-    (numbered-leaf number 5 (LineEnd 93) (ascii "PROXY UNKNOWN ")
+    subst (λ (t : List ℕ). Numbered placeNumber ((restField then λ z. just (lined (bare Unspecified))) .field) (ascii "PROXY UNKNOWN" ++ t)) (sym (m .0))
+    (numbered-then placeNumber restField (λ z. just (lined (bare Unspecified))) (ascii "PROXY UNKNOWN ")
+    (numbered-leaf placeNumber 5 (LineEnd 93) (ascii "PROXY UNKNOWN ")
     (λ u c t a k.
     five (partsEnded (ascii "PROXY UNKNOWN " ++ u)) (let h = ended-append (ascii "PROXY UNKNOWN ") u in omega arith)))
-    (λ z k n. numbered-just number (lined (bare Unspecified)) (ascii "PROXY UNKNOWN " ++ k)))))))
+    (λ z k n. numbered-just placeNumber (lined (bare Unspecified)) (ascii "PROXY UNKNOWN " ++ k)))))))
 
 module _ (Address4 Address6 : List ℕ → List ℕ → Type 0) (address4 address6 : Parser (List ℕ)) (field4 : AddressField Address4 address4)
     (field6 : AddressField Address6 address6)
   where
-    pub numbered-line : Numbered number (line address4 address6 .field) []
+    pub numbered-line : Numbered placeNumber (line address4 address6 .field) []
     numbered-line =
-        numbered-then number proxyWord (λ x. either isU unknown (tcps address4 address6) (unknown-starts address4 address6) (tcps-starts address4 address6)) []
-        (numbered-text number 1 0 80 (ascii "ROXY ") (omega arith) [] refl)
+        numbered-then placeNumber proxyWord (λ x. either isU unknown (tcps address4 address6) (unknown-starts address4 address6) (tcps-starts address4 address6)) []
+        (numbered-text placeNumber 1 0 80 (ascii "ROXY ") (omega arith) [] refl)
         (λ x f l.
-        subst (Numbered number (either isU unknown (tcps address4 address6) (unknown-starts address4 address6) (tcps-starts address4 address6) .field)) (sym (l .0))
-        (numbered-either number isU unknown (tcps address4 address6) (unknown-starts address4 address6) (tcps-starts address4 address6) (ascii "PROXY ")
+        subst (Numbered placeNumber (either isU unknown (tcps address4 address6) (unknown-starts address4 address6) (tcps-starts address4 address6) .field)) (sym (l .0))
+        (numbered-either placeNumber isU unknown (tcps address4 address6) (unknown-starts address4 address6) (tcps-starts address4 address6) (ascii "PROXY ")
         numbered-unknown
-        (numbered-then number tcpWord (λ y. either is4 (tcp4 address4 address6) (tcp6 address4 address6) (starts4 address4 address6) (starts6 address4 address6)) (ascii "PROXY ")
-        (numbered-text number 2 0 84 (ascii "CP") (omega arith) (ascii "PROXY ") refl)
+        (numbered-then placeNumber tcpWord (λ y. either is4 (tcp4 address4 address6) (tcp6 address4 address6) (starts4 address4 address6) (starts6 address4 address6)) (ascii "PROXY ")
+        (numbered-text placeNumber 2 0 84 (ascii "CP") (omega arith) (ascii "PROXY ") refl)
         (λ y g m.
-        subst (λ (t : List ℕ). Numbered number (either is4 (tcp4 address4 address6) (tcp6 address4 address6) (starts4 address4 address6) (starts6 address4 address6) .field) (ascii "PROXY " ++ t)) (sym (m .0))
-        (numbered-either number is4 (tcp4 address4 address6) (tcp6 address4 address6) (starts4 address4 address6) (starts6 address4 address6) (ascii "PROXY TCP")
+        subst (λ (t : List ℕ). Numbered placeNumber (either is4 (tcp4 address4 address6) (tcp6 address4 address6) (starts4 address4 address6) (starts6 address4 address6) .field) (ascii "PROXY " ++ t)) (sym (m .0))
+        (numbered-either placeNumber is4 (tcp4 address4 address6) (tcp6 address4 address6) (starts4 address4 address6) (starts6 address4 address6) (ascii "PROXY TCP")
         (numbered-tcp (Ip4 Stream) Address4 address4 field4 52 (omega arith) (inl refl))
         (numbered-tcp (Ip6 Stream) Address6 address6 field6 54 (omega arith) (inr refl)))))))

@@ -2,10 +2,10 @@
 use mathlib.Core.List.{List}
 use Prim.Native.Nat.{ℕ}
 use Rattle.exact.specs.Claim.{Verdict, Claim}
-use Rattle.header.specs.Header.{Header, Whole, number}
+use Rattle.header.specs.Header.{Header, Whole, placeNumber}
 
 -- The bytes s so far are "accepted" exactly when they begin with a whole header, with what it says and its length; "more" exactly when they do not
 -- but some continuation does; else "refused", at the first byte at which no such continuation was left, with the number of the field that
 -- holds it: `Claim` of crate `exact`, for the whole headers of both versions.
 abbrev pub Judges : Verdict Header → List ℕ → Type 0
-Judges = Claim Whole number
+Judges = Claim Whole placeNumber

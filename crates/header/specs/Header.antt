@@ -44,5 +44,5 @@ abbrev pub blockNumber : ℕ → ℕ
 blockNumber p = pick (ltb p 12) 1 (pick (ltb p 13) 6 (pick (ltb p 14) 7 (pick (ltb p 16) 8 9)))
 
 -- the number of the field that holds the byte behind the bytes u, where u begins a header: byte 0 tells which version it is
-abbrev pub number : List ℕ → ℕ
-number u = pick (eqb (getD u 0 0) 13) (blockNumber (length u)) (lineNumber u)
+abbrev pub placeNumber : List ℕ → ℕ
+placeNumber u = pick (eqb (getD u 0 0) 13) (blockNumber (length u)) (lineNumber u)

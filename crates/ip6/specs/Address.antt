@@ -14,16 +14,16 @@ HexDigits [] = Unit {0}
 HexDigits (c ∷ ds) = (hexOf c < 16) × HexDigits ds
 
 -- the number that hex digits make behind those that make v
-abbrev pub number : ℕ → List ℕ → ℕ
-number v [] = v
-number v (c ∷ ds) = number (v * 16 + hexOf c) ds
+abbrev pub hexNumber : ℕ → List ℕ → ℕ
+hexNumber v [] = v
+hexNumber v (c ∷ ds) = hexNumber (v * 16 + hexOf c) ds
 
 -- "groups of 1 to 4 hex digits in either case"
 pub record Group (f : List ℕ) (v : ℕ) : Type 0 where
   pub digits : HexDigits f
   pub some : 1 ≤ length f
   pub few : length f ≤ 4
-  pub value : v ≡ number 0 f
+  pub value : v ≡ hexNumber 0 f
 
 -- "with colons": groups, at least one, and a colon between two
 abbrev pub Groups : List ℕ → List ℕ → Type 0

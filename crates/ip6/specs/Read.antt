@@ -12,7 +12,7 @@ use Rattle.exact.specs.Ended.{Ended}
 use Rattle.exact.specs.Machine.{Move, go, done, dead, Ends, Runs}
 use Rattle.exact.specs.Pick.{pick-by}
 use Rattle.hex.specs.Hex.{hexOf}
-use Rattle.ip6.specs.Address.{HexDigits, number, Group, Groups, Side, Address}
+use Rattle.ip6.specs.Address.{HexDigits, hexNumber, Group, Groups, Side, Address}
 use Rattle.ip6.specs.Machine.{Gathered, plain, gapped, push, room, State, start, digits, behind, colon, gap, finish, follow, inside, step}
 
 -- ── what a move leads to ──
@@ -72,7 +72,7 @@ pub record Inside (s : Gathered) (n v : ℕ) (p : List ℕ) : Type 0 where
   pub hex : HexDigits text
   pub size : length text ≡ n
   pub few : n ≤ 4
-  pub value : v ≡ number 0 text
+  pub value : v ≡ hexNumber 0 text
   pub room-here : room s ≡ true
 
 abbrev pub Reads : State → List ℕ → Type 0
@@ -122,7 +122,7 @@ digits-snoc : (ds : List ℕ) (c : ℕ) → HexDigits ds → hexOf c < 16 → He
 digits-snoc [] c a h = (h, tt)
 digits-snoc (d ∷ ds) c a h = (a .0, digits-snoc ds c (a .1) h)
 
-number-snoc : (ds : List ℕ) (c v : ℕ) → number v (ds ++ c ∷ []) ≡ number v ds * 16 + hexOf c
+number-snoc : (ds : List ℕ) (c v : ℕ) → hexNumber v (ds ++ c ∷ []) ≡ hexNumber v ds * 16 + hexOf c
 number-snoc [] c v = refl
 number-snoc (d ∷ ds) c v = number-snoc ds c (v * 16 + hexOf d)
 

@@ -12,7 +12,7 @@ use Rattle.exact.specs.Ended.{Ended}
 use Rattle.exact.specs.MachineLaws.{runs-at}
 use Rattle.exact.specs.Machine.{dead, Runs}
 use Rattle.hex.specs.Hex.{hexOf}
-use Rattle.ip6.specs.Address.{HexDigits, number, Group, Groups, Full, Side, filled, Shortened, Address, Ending}
+use Rattle.ip6.specs.Address.{HexDigits, hexNumber, Group, Groups, Full, Side, filled, Shortened, Address, Ending}
 use Rattle.ip6.specs.Machine.{Gathered, plain, gapped, push, room, State, start, digits, behind, colon, gap, inside, step}
 use Rattle.ip6.specs.Read.{Fits}
 use Rattle.ip6.specs.Steps.{colon-no-digit, digit-no-colon, Takes, goes, ends, alike, gap-end, follow-colon, follow-end, inside-digit, inside-follow}
@@ -38,7 +38,7 @@ room-all (gapped l r) v w vs h =
 
 module _ (end : ℕ) (e : Ending end) where
   digits-walk : (ds : List ℕ) (s : Gathered) (n v c : ℕ) (t vs : List ℕ) → HexDigits ds → (n + length ds ≡ 0 → ⊥) → n + length ds ≤ 4
-      → (hexOf c < 16 → ⊥) → Takes end (behind (push s (number v ds))) (c ∷ t) vs → Takes end (digits s n v) (ds ++ c ∷ t) vs
+      → (hexOf c < 16 → ⊥) → Takes end (behind (push s (hexNumber v ds))) (c ∷ t) vs → Takes end (digits s n v) (ds ++ c ∷ t) vs
   digits-walk [] s n v c t vs h some few other r =
       alike end (digits s n v) (behind (push s v)) c t vs (inside-follow end s n v c other (λ z. some (omega arith))) r
   digits-walk (d ∷ ds) s n v c t vs h some few other r =

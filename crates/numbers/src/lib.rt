@@ -61,7 +61,7 @@ pub fn tell(verdict: Verdict, kind: Kind, size: usize) -> Told
             length: 0,
         },
         Verdict::Refused { refusal, place } => Told {
-            answer: answer::number(refusal) as u32,
+            answer: answer::refusal_number(refusal) as u32,
             first: place as u64,
             second: 0,
             start: 0,

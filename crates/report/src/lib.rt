@@ -50,7 +50,7 @@ pub fn answer_line(reading: Reading) -> Draft
         }
         Verdict::More => push_word(empty(), b"more\n"),
         Verdict::Refused { refusal, place } => {
-            let number = answer::number(refusal) as u64;
+            let number = answer::refusal_number(refusal) as u64;
             let place = place as u64;
             let numbered = push_decimal(push_word(empty(), b"refused "), number);
             push(push_decimal(push_word(numbered, b" at "), place), b'\n')

@@ -11,6 +11,7 @@ use Rattle.exact.specs.Claim.{Verdict, accepted, more, refused}
 use Rattle.exact.specs.MachineLaws.{from-start, from-end, from-go, from-done, from-dead}
 use Rattle.exact.specs.Machine.{from}
 use Rattle.exact.specs.Pick.{pick}
+use Rattle.exact.specs.Network.{number}
 use Rattle.tlv.specs.RegionVerdict.{Due, typeByte, highByte, lowByte, valueByte, enter, good, stepByte, step, judge}
 
 -- the verdict where n bytes are left at the place i, and a TLV begins there if there are any
@@ -96,14 +97,14 @@ module _ (k : ℕ) (s : List ℕ) where
       pub low-more : i + 1 < length s → 3 ≤ n → 256 * high ≤ room → length s ≤ i + 2 → left k s i n ≡ more
       low-more h three within end = high-go h three within ∙ from-end k step s (i + 2) (lowByte high room) end
 
-      pub low-dead : i + 2 < length s → 3 ≤ n → 256 * high ≤ room → good (256 * high + low) room ≡ false → left k s i n ≡ refused k (i + 2)
+      pub low-dead : i + 2 < length s → 3 ≤ n → 256 * high ≤ room → good (number high low) room ≡ false → left k s i n ≡ refused k (i + 2)
       low-dead h three within bad =
           high-go (omega arith) three within
           ∙ from-dead k step s (i + 2) (lowByte high room) h (at-byte (lowByte high room) (i + 2) ∙ rw bad)
 
-      pub low-go : i + 2 < length s → 3 ≤ n → 256 * high ≤ room → good (256 * high + low) room ≡ true
-          → left k s i n ≡ left k s (i + 3 + (256 * high + low)) (room - (256 * high + low))
+      pub low-go : i + 2 < length s → 3 ≤ n → 256 * high ≤ room → good (number high low) room ≡ true
+          → left k s i n ≡ left k s (i + 3 + (number high low)) (room - (number high low))
       low-go h three within fits =
           high-go (omega arith) three within
-          ∙ jump (256 * high + low) (room - (256 * high + low)) (i + 2) (i + 3 + (256 * high + low)) (lowByte high room) (omega arith) h
+          ∙ jump (number high low) (room - (number high low)) (i + 2) (i + 3 + (number high low)) (lowByte high room) (omega arith) h
           (at-byte (lowByte high room) (i + 2) ∙ rw fits)

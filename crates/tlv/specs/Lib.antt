@@ -7,5 +7,3 @@ pub mod Region
 pub mod Whole
 pub mod Test
 pub mod Heads
-pub mod Count
-pub mod CountLaws

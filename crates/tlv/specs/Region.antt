@@ -14,6 +14,7 @@ use Rattle.exact.specs.Machine.{leaf, go, run}
 use Rattle.exact.specs.Parser.{Parser}
 use Rattle.exact.specs.Pick.{pick, pick-by}
 use Rattle.exact.specs.Valueless.{Valueless}
+use Rattle.exact.specs.Network.{number}
 use Rattle.tlv.specs.Tlv.{Filled}
 use Rattle.tlv.specs.Laws.{area-bytes}
 use Rattle.tlv.specs.Room.{Fillable, Good, Behind, head-open, head-shut, retype, high-byte, good-leaves, behind-fill}
@@ -95,11 +96,11 @@ type-sound n c b ok =
     let e : 3 + (n - 3) ≡ n = omega arith in
     (tt, λ f a. (λ l. (rw e (retype n c 0 f (omega arith) (l .0) .1), l .1), λ l. (retype n 0 c f b (rw e at (l .0)) .1, l .1)))
 
-low-sound : (h room c : ℕ) → c < 256 → h < 256 → Good (256 * h + c) room
-    → Sound Lang Ok (lowByte h room) c (enter (256 * h + c) (room - (256 * h + c)))
+low-sound : (h room c : ℕ) → c < 256 → h < 256 → Good (number h c) room
+    → Sound Lang Ok (lowByte h room) c (enter (number h c) (room - (number h c)))
 low-sound h room c b bh g =
-    let leaves = good-leaves (256 * h + c) room g in
-    enter-sound (lowByte h room) c (256 * h + c) (room - (256 * h + c)) (leaves .1)
+    let leaves = good-leaves (number h c) room g in
+    enter-sound (lowByte h room) c (number h c) (room - (number h c)) (leaves .1)
     (λ f. (
       λ w. head-open 0 h c room f w .behind,
       λ w. head-shut 0 h c room f (record { type = omega arith; high = bh; low = b; within = leaves .0; behind = w }),
@@ -113,8 +114,8 @@ byte-sound (highByte room) c b ok =
     pick-by (Sound Lang Ok (highByte room) c) (leb (256 * c) room) (λ t. ((b, leb-true _ _ t), λ f a. (λ l. l, λ l. l)))
     (λ t f a l. let h : room < 256 * c = leb-false _ _ t in let g = high-byte 0 c room f (l .0) .1 in omega arith)
 byte-sound (lowByte h room) c b ok =
-    pick-by (Sound Lang Ok (lowByte h room) c) (good (256 * h + c) room) (λ t. low-sound h room c b (ok .0) (good-true _ _ .0 t))
-    (λ t f a l. good-false (256 * h + c) room t (low-rule 0 h c room (omega arith) (ok .0) b .0 (f, l .0)))
+    pick-by (Sound Lang Ok (lowByte h room) c) (good (number h c) room) (λ t. low-sound h room c b (ok .0) (good-true _ _ .0 t))
+    (λ t f a l. good-false (number h c) room t (low-rule 0 h c room (omega arith) (ok .0) b .0 (f, l .0)))
 byte-sound (valueByte v n) c b ok = enter-sound (valueByte v n) c v n ok (λ f. (λ w. w .1, λ w. (b, w)))
 
 step-sound : (q : Due) (c : ℕ) → Ok q → Sound Lang Ok q c (step q c)

@@ -6,6 +6,7 @@ use lib.Dec.{ltb, leb, eqb}
 use Rattle.exact.specs.Claim.{Verdict, accepted}
 use Rattle.exact.specs.Machine.{Move, go, done, dead, run}
 use Rattle.exact.specs.Pick.{pick}
+use Rattle.exact.specs.Network.{number}
 
 -- The byte that is due. typeByte n: n bytes are left with it. highByte room, lowByte h room: room bytes are left behind the two length bytes.
 -- valueByte v n: v value bytes follow it, and then n bytes.
@@ -29,7 +30,7 @@ good size room = pick (eqb size room) true (leb (size + 3) room)
 abbrev pub stepByte : Due → ℕ → Move Due ℕ
 stepByte (typeByte n) c = pick (leb 3 n) (go (highByte (n - 3))) dead
 stepByte (highByte room) c = pick (leb (256 * c) room) (go (lowByte c room)) dead
-stepByte (lowByte h room) c = pick (good (256 * h + c) room) (enter (256 * h + c) (room - (256 * h + c))) dead
+stepByte (lowByte h room) c = pick (good (number h c) room) (enter (number h c) (room - (number h c))) dead
 stepByte (valueByte v n) c = enter v n
 
 -- no other number is a byte

@@ -9,6 +9,7 @@ use borrow.Author.Tests.{leb-true, leb-false}
 use lib.Dec.{leb}
 use lib.ListN.{length, drop, length-append}
 use Rattle.exact.specs.Claim.{AllBytes}
+use Rattle.exact.specs.Network.{number}
 use Rattle.tlv.specs.Tlv.{Tlv, written, Proper, Area, WellFormed, Filled}
 use Rattle.tlv.specs.Laws.{byte}
 
@@ -104,8 +105,8 @@ pub record Head (t h l room : ℕ) (r : List ℕ) : Type 0 where
   pub type : t < 256
   pub high : h < 256
   pub low : l < 256
-  pub within : 256 * h + l ≤ room
-  pub behind : Behind (256 * h + l) (room - (256 * h + l)) r
+  pub within : number h l ≤ room
+  pub behind : Behind (number h l) (room - (number h l)) r
 
 module _ (t h l room : ℕ) (r : List ℕ) where
   head-by : (tlvs : List Tlv) → length r ≡ room → Area (t ∷ h ∷ l ∷ r) tlvs → Head t h l room r
@@ -117,8 +118,8 @@ module _ (t h l room : ℕ) (r : List ℕ) where
       let low = ap (byte 2) e in
       let rest : r ≡ u .value ++ written tlvs = ap (drop 3) e in
       let all : length (u .value) + length (written tlvs) ≡ room = sym (length-append (u .value) (written tlvs)) ∙ ap length (sym rest) ∙ n in
-      let size : 256 * h + l ≡ length (u .value) = omega arith in
-      let left : room - (256 * h + l) ≡ length (written tlvs) = omega arith in
+      let size : number h l ≡ length (u .value) = omega arith in
+      let left : room - (number h l) ≡ length (written tlvs) = omega arith in
       record {
         type = omega arith;
         high = omega arith;
@@ -132,9 +133,9 @@ module _ (t h l room : ℕ) (r : List ℕ) where
 
   pub head-shut : Head t h l room r → Filled (3 + room) (t ∷ h ∷ l ∷ r)
   head-shut a =
-      let c = cut (256 * h + l) (room - (256 * h + l)) r (a .behind) in
+      let c = cut (number h l) (room - (number h l)) r (a .behind) in
       let tlvs = c .filled .1 .0 in
-      let all = behind-length (256 * h + l) (room - (256 * h + l)) r (a .behind) in
+      let all = behind-length (number h l) (room - (number h l)) r (a .behind) in
       let high : h ≡ length (c .value) / 256 = omega arith in
       let low : l ≡ length (c .value) % 256 = omega arith in
       let rest : r ≡ c .value ++ written tlvs = c .split ∙ ap (λ (x : List ℕ). c .value ++ x) (c .filled .1 .1 .0) in (
@@ -176,9 +177,9 @@ leaves-good size room h (inl e) = inl (omega arith)
 leaves-good size room h (inr g) = inr (omega arith)
 
 -- a low byte that makes the length good
-pub some-low : (h room : ℕ) → 256 * h ≤ room → (l : ℕ) × (l < 256) × Good (256 * h + l) room
+pub some-low : (h room : ℕ) → 256 * h ≤ room → (l : ℕ) × (l < 256) × Good (number h l) room
 some-low h room le = by (leb (256 * h + 256) room) refl
   where
-    by : (b : Bool) → leb (256 * h + 256) room ≡ b → (l : ℕ) × (l < 256) × Good (256 * h + l) room
+    by : (b : Bool) → leb (256 * h + 256) room ≡ b → (l : ℕ) × (l < 256) × Good (number h l) room
     by true e = let g : 256 * h + 256 ≤ room = leb-true _ _ e in (0, omega arith, inr (omega arith))
     by false e = let g : room < 256 * h + 256 = leb-false _ _ e in (room - 256 * h, omega arith, inl (omega arith))

@@ -3,6 +3,7 @@ use mathlib.Core.Path.{_≡_}
 use mathlib.Core.List.{[], _∷_}
 use mathlib.Core.Logic.{_⊎_, _↔_}
 use Prim.Native.Nat.{ℕ, _+_, _*_, _-_, _≤_, _<_}
+use Rattle.exact.specs.Network.{number}
 use Rattle.tlv.specs.Tlv.{Completes}
 use Rattle.tlv.specs.Room.{fill, filled-fillable, behind-fill, behind-fillable, head-open, head-shut, high-byte, good-leaves, leaves-good, some-low}
 
@@ -12,14 +13,14 @@ fill-rule n = (λ c. filled-fillable n (c .0) (c .1), fill n)
 
 -- "a length is good exactly if it equals R or is at most R - 3"
 pub low-rule : (t h l room : ℕ) → t < 256 → h < 256 → l < 256
-    → Completes (3 + room) (t ∷ h ∷ l ∷ []) ↔ ((256 * h + l ≡ room) ⊎ (256 * h + l + 3 ≤ room))
+    → Completes (3 + room) (t ∷ h ∷ l ∷ []) ↔ ((number h l ≡ room) ⊎ (number h l + 3 ≤ room))
 low-rule t h l room type high low = (
   λ c.
       let a = head-open t h l room (c .0) (c .1) in
-      leaves-good (256 * h + l) room (a .within) (behind-fillable (256 * h + l) (room - (256 * h + l)) (c .0) (a .behind)),
+      leaves-good (number h l) room (a .within) (behind-fillable (number h l) (room - (number h l)) (c .0) (a .behind)),
   λ g.
-      let a = good-leaves (256 * h + l) room g in
-      let r = behind-fill (256 * h + l) (room - (256 * h + l)) (a .1) in
+      let a = good-leaves (number h l) room g in
+      let r = behind-fill (number h l) (room - (number h l)) (a .1) in
       (r .0, head-shut t h l room (r .0) (record { type = type; high = high; low = low; within = a .0; behind = r .1 })),
 )
 

@@ -1,7 +1,6 @@
 // TLV areas: bytes that TLVs fill, each a type, two length bytes (high first) and a value.
 // No public function has a `requires`.
 use exact::Scan;
-use exact::number;
 ghost use mathlib.Core.Path.{_≡_};
 ghost use mathlib.Core.Bool.{true};
 ghost use mathlib.Core.Logic.{_⊎_};
@@ -11,14 +10,6 @@ ghost use Rattle.exact.specs.Valueless.{Valueless};
 ghost use Rattle.exact.specs.Scans.{told};
 ghost use Rattle.tlv.specs.Tlv.{WellFormed, Filled};
 ghost use Rattle.tlv.specs.RegionVerdict.{good, judge};
-ghost use Rattle.tlv.specs.Count.{Counts};
-
-// How many TLVs of a type an area has.
-pub enum Count {
-    Tlvs(usize),
-    // TLVs do not fill the area: document 01's number 12.
-    IllFormed,
-}
 
 // Whether a length is good: TLVs can fill what a value of that size leaves of the room behind the head.
 fn is_good(size: usize, room: usize) -> bool
@@ -52,7 +43,7 @@ pub fn region(s: &[u8], n: usize) -> Scan
             return Scan::More;
         }
         let room = n - i - 3;
-        let high = 256 * (s[i + 1] as usize);
+        let high = (s[i + 1] as usize) * 256;
         if room < high {
             return Scan::Refused(i + 1);
         }
@@ -81,25 +72,5 @@ pub fn well_formed(s: &[u8]) -> bool
         Scan::Accepted(_, _) => true,
         Scan::More => false,
         Scan::Refused(_) => false,
-    }
-}
-
-// Counts the TLVs of a type; an ill-formed area is refused.
-pub fn count_of(area: &[u8], wanted: u8) -> Count
-    ensures { λ r. ⌜ Counts (now (area .entry)) wanted r ⌝ }
-{
-    if well_formed(area) {
-        let mut at: usize = 0;
-        let mut count: usize = 0;
-        while at < area.len() {
-            let size = number(area[at + 1], area[at + 2]) as usize;
-            if area[at] == wanted {
-                count = count + 1;
-            }
-            at = at + 3 + size;
-        }
-        Count::Tlvs(count)
-    } else {
-        Count::IllFormed
     }
 }

@@ -14,9 +14,9 @@ use Rattle.record.specs.declared.Kind.the-variants.{Local}
 use Rattle.record.specs.Records.{bare}
 use Rattle.fields.specs.BlockFields.{local, proxy, commandOf, command, commandRest, anyByte, skipped}
 use Rattle.answer.specs.StageLaws.{sees-as, as-refused, as-accepted}
-use Rattle.block.proofs.Takes.{bytes-of, bytes-drop, next-short, short-at, pass-at}
-use Rattle.block.proofs.Leaves.{byte-short, byte-full, takes-byte}
-use Rattle.block.proofs.SkippedLaws.{skipped-wants}
+use Rattle.block_body.proofs.Takes.{bytes-of, bytes-drop, next-short, short-at, pass-at}
+use Rattle.block_body.proofs.Leaves.{byte-short, byte-full, takes-byte}
+use Rattle.block_body.proofs.SkippedLaws.{skipped-wants}
 use Rattle.block.proofs.command.Statement.{statement}
 use Rattle.block.proofs.command.Tie as tie
 
@@ -57,7 +57,7 @@ returns-2 c =
     let s = text (start ran) in
     as-accepted command commandRest s 12 local 1
     (sym (byte-full commandOf 6 (some local) (rest ran) (bytes ran) (here ran) (ap commandOf (byte ran ∙ c .before .match .keys1))))
-    (sees-as (c .skipped .ensures)
+    (sees-as (c .from-length .ensures)
     (sym
     (pass-at (anyByte .verdict) (λ x. skipped (bare Local) .verdict) 1 (λ t. getD t 0 0) (takes-byte 7) s (all (start ran)) 13
     (λ x. skipped-wants (bare Local)))))

@@ -13,8 +13,8 @@ use Rattle.fields.specs.BlockFields.{familyField, familyRest}
 use Rattle.answer.specs.StageLaws.{sees-as, as-refused, as-accepted}
 use Rattle.record.specs.declared.Family.{Family}
 use Rattle.record.specs.KnownFamily.{toldFamily}
-use Rattle.block.proofs.Takes.{bytes-of, bytes-drop, next-short, short-at}
-use Rattle.block.proofs.Leaves.{byte-short, byte-full}
+use Rattle.block_body.proofs.Takes.{bytes-of, bytes-drop, next-short, short-at}
+use Rattle.block_body.proofs.Leaves.{byte-short, byte-full}
 use Rattle.block.proofs.proxy.Statement.{statement}
 use Rattle.block.proofs.proxy.Tie as tie
 
@@ -52,7 +52,7 @@ returns-2 c =
     let s = text (start ran) in
     as-accepted familyField familyRest s 13 _ 1
     (sym (byte-full family 7 _ (rest ran) (bytes-drop 13 s (all (start ran))) (here ran) (found ran _ (c .before .before .kind .given .1))))
-    (c .family-rest .ensures)
+    (c .from-length .ensures)
 
 returns-3 : tie.Need-returns-3
 returns-3 c =

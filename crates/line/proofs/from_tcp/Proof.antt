@@ -38,9 +38,6 @@ add-refused c = let ran = c .before .before .before in let h = stage-place tcpWo
 add-from-family : tie.Need-add-from-family
 add-from-family c = let ran = c .before .before .before in let h = stage-inside tcpWord (text ran) (at ran) (start ran .pre) _ _ (found ran _ (c .before .n .given .1)) in omega arith
 
-from-family-requires : tie.Need-from-family-requires
-from-family-requires c κs = let ran = c .before .before .before in stage-inside tcpWord (text ran) (at ran) (start ran .pre) _ _ (found ran _ (c .before .n .given .1))
-
 returns : tie.Need-returns
 returns c = let ran = c .before .before .before in as-more tcpWord (rest ran) (text ran) (at ran) (found ran _ (c .before .enum-told .given .1)) (c .more .ensures (text ran))
 
@@ -54,5 +51,5 @@ pub from-tcp-spec : {M : Type 1} → statement M
 from-tcp-spec =
     tie.close
     (tie.spec (λ c. search needs) (λ c. search needs) (λ c. search needs) (λ c. search needs) (λ c κs. search needs) (λ c. search needs)
-    (λ c κs. search needs) (λ c. search needs) add-refused (λ c κs. search needs) (λ c. search needs) add-from-family from-family-requires returns
+    (λ c κs. search needs) (λ c. search needs) add-refused (λ c κs. search needs) (λ c. search needs) add-from-family (λ c κs. search needs) returns
     returns-2 returns-3)

@@ -37,9 +37,6 @@ add-refused c = let ran = c .before .before .before in let h = stage-place unkno
 add-from-unknown-end : tie.Need-add-from-unknown-end
 add-from-unknown-end c = let ran = c .before .before .before in let h = stage-inside unknownWord (text ran) (at ran) (start ran .pre) _ _ (found ran _ (c .before .n .given .1)) in omega arith
 
-from-unknown-end-requires : tie.Need-from-unknown-end-requires
-from-unknown-end-requires c κs = let ran = c .before .before .before in stage-inside unknownWord (text ran) (at ran) (start ran .pre) _ _ (found ran _ (c .before .n .given .1))
-
 returns : tie.Need-returns
 returns c = let ran = c .before .before .before in as-more unknownWord (rest ran) (text ran) (at ran) (found ran _ (c .before .enum-told .given .1)) (c .more .ensures (text ran))
 
@@ -53,5 +50,5 @@ pub from-unknown-spec : {M : Type 1} → statement M
 from-unknown-spec =
     tie.close
     (tie.spec (λ c. search needs) (λ c. search needs) (λ c. search needs) (λ c. search needs) (λ c κs. search needs) (λ c. search needs)
-    (λ c κs. search needs) (λ c. search needs) add-refused (λ c κs. search needs) (λ c. search needs) add-from-unknown-end from-unknown-end-requires
+    (λ c κs. search needs) (λ c. search needs) add-refused (λ c κs. search needs) (λ c. search needs) add-from-unknown-end (λ c κs. search needs)
     returns returns-2 returns-3)

@@ -3,7 +3,6 @@ use Prim.Native.Nat.{ℕ}
 use mathlib.Core.Path.{_≡_, sym, ap, _∙_}
 use mathlib.Core.List.{List}
 use Rattle.exact.specs.Claim.{accepted, more, refused}
-use Rattle.exact.specs.Parser.{reach-le}
 use Rattle.exact.specs.Scans.{told}
 use Rattle.exact.specs.declared.Scan.{Scan}
 use Rattle.fields.specs.Exactness.{address4, address6}
@@ -20,9 +19,6 @@ module _ (c : tie.After-literal) where
   found : (x : Scan) → c .literal .result ≡ x → told 1 x ≡ proxyWord .verdict text
   found x e = ap (told 1) (sym e) ∙ c .literal .ensures .0 1
 
-from-word-requires : tie.Need-from-word-requires
-from-word-requires c κs = let ran = c .before .before .before in reach-le proxyWord (text ran) (accepted _ _) (found ran _ (c .before .n .given .1))
-
 returns : tie.Need-returns
 returns c = let ran = c .before .before .before in as-first proxyWord (λ x. words address4 address6) more (found ran _ (c .before .enum-told .given .1)) (c .more .ensures (text ran))
 
@@ -36,4 +32,4 @@ pub line-spec : {M : Type 1} → statement M
 line-spec =
     tie.close
     (tie.spec (λ c. search needs) (λ c κs. search needs) (λ c. search needs) (λ c κs. search needs) (λ c. search needs) (λ c κs. search needs)
-    (λ c. search needs) from-word-requires returns returns-2 returns-3)
+    (λ c. search needs) (λ c κs. search needs) returns returns-2 returns-3)

@@ -39,7 +39,7 @@ returns-2 c = let x = c .before .before .before .before .args in ap (λ (w : Ver
 returns-3 : tie.Need-returns-3
 returns-3 c =
     let x = c .before .before .before .before .before .before .args in
-    ap (λ (k : ℕ). record { answer = k; first = c .before .before .verdict2 .given .0 .1 .0; second = 0; start = 0; length = 0 }) (c .number .ensures)
+    ap (λ (k : ℕ). record { answer = k; first = c .before .before .verdict2 .given .0 .1 .0; second = 0; start = 0; length = 0 }) (c .refusal-number .ensures)
     ∙ ap (λ (w : Verdict). toldOf w (x .kind) (x .size)) (sym (c .before .before .verdict2 .given .1))
 
 pub tell-spec : {M : Type 1} → statement M

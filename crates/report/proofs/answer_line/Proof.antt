@@ -49,7 +49,7 @@ returns-3 c =
     let so-far = rw (so-far, appended-more) at (number .push-decimal2 .ensures) in
     let so-far = rw (so-far, appended-more) at (at-word .push-word4 .ensures) in
     let so-far = rw (so-far, appended-more) at (place .push-decimal3 .ensures) in
-    let so-far = rw (so-far, appended-more, none .before .number .ensures) at (c .push3 .ensures) in
+    let so-far = rw (so-far, appended-more, none .before .refusal-number .ensures) at (c .push3 .ensures) in
     rw (verdict .1)
     (so-far
     ∙ appended-draft [] (lineOf (Refused (verdict .0 .0) (verdict .0 .1 .0)) k) (refused-fits (verdict .0 .0) (verdict .0 .1 .0) k (omega arith)))

@@ -9,6 +9,7 @@ use lib.ListN.{getD}
 use Rattle.exact.specs.Claim.{Verdict, accepted, Claim}
 use Rattle.exact.specs.Valueless.{Valueless}
 use Rattle.exact.specs.Theorem.{leaf-claims}
+use Rattle.exact.specs.Network.{number}
 use Rattle.tlv.specs.Tlv.{Filled}
 use Rattle.tlv.specs.Laws.{area-bytes}
 use Rattle.tlv.specs.Room.{good-leaves}
@@ -62,7 +63,7 @@ module _ (c : tie.After-is-good Inv-loop μ-loop) where
   room = rest head - 3
 
   abbrev size : ℕ
-  size = 256 * getD (area head) (at head + 1) 0 + getD (area head) (at head + 2) 0
+  size = number (getD (area head) (at head + 1) 0) (getD (area head) (at head + 2) 0)
 
   tested : (b : Bool) → c .is-good .result ≡ b → good size room ≡ b
   tested b e = sym (c .is-good .ensures) ∙ e
