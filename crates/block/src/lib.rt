@@ -5,10 +5,10 @@ use answer::Seen;
 use answer::more;
 use answer::refused;
 use block_body::from_length;
+use block_body::local;
 use exact::Scan;
 use exact::literal;
 use record::Family;
-use record::Kind;
 use record::family_of;
 ghost use lib.ListN.{drop};
 ghost use Rattle.exact.specs.Field.{shift};
@@ -36,7 +36,7 @@ fn command(s: &[u8]) -> Seen
         return more();
     }
     match s[12] {
-        0x20 => from_length(s, Kind::Local),
+        0x20 => local(s),
         0x21 => proxy(s),
         _ => refused(Refusal::Command, 12),
     }

@@ -18,6 +18,7 @@ ghost use Prim.Native.Nat.{ℕ};
 ghost use lib.ListN.{drop, take};
 ghost use Rattle.exact.specs.Claim.{accepted as acceptedOf};
 ghost use Rattle.exact.specs.Field.{shift};
+ghost use Rattle.record.specs.declared.Kind.the-variants.{Local};
 ghost use Rattle.record.specs.Kinds.{blockLength};
 ghost use Rattle.record.specs.Records.{bare};
 ghost use Rattle.fields.specs.BlockFields.{blocked, familyRest, skipped as skippedField, addressed as addressedField, addresses as addressesField, fits as fitsIn};
@@ -97,7 +98,14 @@ fn addressed(s: &[u8], kind: Kind) -> Seen
     }
 }
 
-// From 14 on, where byte 13, or LOCAL, says the kind.
+// From 14 on, under LOCAL.
+pub fn local(s: &[u8]) -> Seen
+    ensures { λ r. ⌜ Sees (now (s .entry)) (shift 14 (skippedField (bare Local) .verdict (drop 14 (now (s .entry))))) r ⌝ }
+{
+    skipped(s, Kind::Local)
+}
+
+// From 14 on, under PROXY, where byte 13 says the kind.
 pub fn from_length(s: &[u8], kind: Kind) -> Seen
     ensures { λ r. ⌜ Sees (now (s .entry)) (shift 14 (familyRest kind .verdict (drop 14 (now (s .entry))))) r ⌝ }
 {

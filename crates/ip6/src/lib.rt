@@ -3,6 +3,8 @@
 //
 // An address so far is the first count of its groups, with zeros behind them. "::" counts as one group, a zero; gap counts the groups up to
 // and with it, and is 0 while it has not come.
+use colon_part::Part;
+use colon_part::colon_part;
 use exact::Scan;
 use hex::hex_value;
 ghost use mathlib.Core.Path.{_≡_};
@@ -120,50 +122,15 @@ fn colon(
     ensures { λ r. ⌜ From end (now (now (s .entry))) i (behind (gatheredOf (sofar (now (groups .entry)) count gap)))
         (scanOf r (now (place .exit))) (now (groups .exit)) ⌝ }
 {
-    let bytes = *s;
-    if bytes.len() <= i {
-        return MORE;
-    }
-    let c = bytes[i];
-    if c != b':' {
-        if c == end {
-            return finished(groups, count, gap, i, place);
+    match colon_part(*s, i, end, count, gap) {
+        Part::More => MORE,
+        Part::Refused(at) => {
+            *place = at;
+            REFUSED
         }
-        *place = i;
-        return REFUSED;
+        Part::End { at, count, gap } => finished(groups, count, gap, at, place),
+        Part::Group { at, count, gap } => group(s, at, end, groups, count, gap, place),
     }
-    if 8 <= count {
-        *place = i;
-        return REFUSED;
-    }
-    let next = i + 1;
-    if bytes.len() <= next {
-        return MORE;
-    }
-    if bytes[next] != b':' {
-        if count == 0 {
-            *place = next;
-            return REFUSED;
-        }
-        return group(s, next, end, groups, count, gap, place);
-    }
-    if 0 < gap {
-        *place = next;
-        return REFUSED;
-    }
-    let after = next + 1;
-    if bytes.len() <= after {
-        return MORE;
-    }
-    let counted = count + 1;
-    if bytes[after] == end {
-        return finished(groups, counted, counted, after, place);
-    }
-    if 7 <= count {
-        *place = after;
-        return REFUSED;
-    }
-    group(s, after, end, groups, counted, counted, place)
 }
 
 // The answer from the first byte on.

@@ -57,7 +57,7 @@ returns-2 c =
     let s = text (start ran) in
     as-accepted command commandRest s 12 local 1
     (sym (byte-full commandOf 6 (some local) (rest ran) (bytes ran) (here ran) (ap commandOf (byte ran ∙ c .before .match .keys1))))
-    (sees-as (c .from-length .ensures)
+    (sees-as (c .local .ensures)
     (sym
     (pass-at (anyByte .verdict) (λ x. skipped (bare Local) .verdict) 1 (λ t. getD t 0 0) (takes-byte 7) s (all (start ran)) 13
     (λ x. skipped-wants (bare Local)))))

@@ -1,19 +1,21 @@
--- `group` and `colon` answer as the machine: what is left of the bytes falls from one to the other, and each return is a law of AtGroup or AtColon.
-use mathlib.Core.Path.{_≡_, sym, _∙_}
+-- `group` and `colon` answer as the machine: what is left of the bytes falls from one to the other, each return of `group` is a law of AtGroup, and `colon` goes where the part leads (AtColon).
+use mathlib.Core.Path.{_≡_, sym, _∙_, subst}
 use mathlib.Core.List.{List}
 use Prim.Native.Nat.{ℕ, _+_, _-_, _^_, _≤_, _<_}
 use native.Mathlib.Omega.{arith}
+use borrow.Author.Needs.{needs}
 use lib.ListN.{length, getD}
 use Rattle.exact.specs.declared.Scan.{Scan}
+use Rattle.colon_part.specs.declared.Part.{Part}
 use Rattle.hex.specs.Hex.{hexOf}
 use Rattle.hex.specs.HexLaws.{hex-most}
-use Rattle.ip6.specs.Machine.{digits, behind, colon, gap}
+use Rattle.ip6.specs.Machine.{digits, behind}
 use Rattle.ip6.specs.Partial.{Partial, sofar, Sized, gatheredOf}
 use Rattle.ip6.specs.Answer.{From}
-use Rattle.ip6.proofs.Gathered.{push-sized, gap-sized}
+use Rattle.ip6.proofs.Gathered.{push-sized}
 use Rattle.ip6.proofs.Turn.{wants}
 use Rattle.ip6.proofs.AtGroup.{digits-fit, digits-more, group-none, group-long, group-digit, group-ends}
-use Rattle.ip6.proofs.AtColon.{held, behind-other, behind-ends, behind-full, behind-colon, colon-lone, colon-group, colon-twice, colon-gap, gap-full, gap-ends, gap-group}
+use Rattle.ip6.proofs.AtColon.{Leads, part-leads}
 use borrow.Fn.Kinds.{In}
 use borrow.Fn.PlainCycle.{Measures, is, falls, and}
 use Rattle.ip6.proofs.colon.Reads as colon-reads
@@ -23,6 +25,7 @@ use Rattle.ip6.proofs.group.Reads as group-reads
 use Rattle.ip6.proofs.group.Kinds as group-kinds
 use Rattle.ip6.proofs.+colon+group.Lts-group as group-lts
 use Rattle.ip6.proofs.finished.Reads as finished-reads
+use Rattle.colon_part.proofs.colon_part.Reads as colon-part-reads
 use Rattle.hex.proofs.hex_value.Reads as hex-value-reads
 use Rattle.ip6.proofs.+colon+group.{statement}
 use Rattle.ip6.proofs.+colon+group.Tie.{close}
@@ -46,7 +49,7 @@ abbrev group-below : ℕ → In 4 group-kinds.ps
 group-below t = and 4 group-kinds.ps (falls 4 group-kinds.ps _<_ μ-group t) group-reads.Pre
 
 abbrev colon-calls : ℕ → colon-lts.Claims
-colon-calls t = (finished-reads.Asked, finished-reads.Learnt, group-below t, group-reads.Post)
+colon-calls t = (colon-part-reads.Asked, colon-part-reads.Learnt, finished-reads.Asked, finished-reads.Learnt, group-below t, group-reads.Post)
 
 abbrev group-calls : ℕ → group-lts.Claims
 group-calls t = (hex-value-reads.Asked, hex-value-reads.Learnt, colon-below t, colon-reads.Post)
@@ -62,133 +65,63 @@ abbrev group-μ-loop : group-lts.MeasureT-loop
 group-μ-loop s i end groups₀ count gaps place₀ bytes v₀ n₀ at₀ groups place v n at = length bytes - at
 
 module _ (t : ℕ) where
-  -- ── colon: behind a group ──
-  colon-returns : colon-lts.Need-returns (colon-calls t) (colon-at t) colon-reads.Post
-  colon-returns c = wants (c .if1 .taken)
-
-  colon-shared-slice-read-c : colon-lts.Need-shared-slice-read-c (colon-calls t) (colon-at t) colon-reads.Post
-  colon-shared-slice-read-c c = c .before .if1 .left
-
-  colon-finished-requires : colon-lts.Need-finished-requires (colon-calls t) (colon-at t) colon-reads.Post
-  colon-finished-requires c κs =
-      let pre = c .before .before .before .before .before .before .before .pre .1 in
-      (pre .0, let h = pre .1 in omega arith)
-
-  colon-returns-2 : colon-lts.Need-returns-2 (colon-calls t) (colon-at t) colon-reads.Post
-  colon-returns-2 c =
-      behind-ends (c .before .before .before .before .before .before .if1 .left) (c .before .before .before .before .if2 .taken)
-      (c .before .before .before .if3 .taken) (c .finished .ensures)
-
-  colon-returns-3 : colon-lts.Need-returns-3 (colon-calls t) (colon-at t) colon-reads.Post
-  colon-returns-3 c = behind-other (c .before .before .before .if1 .left) (c .before .if2 .taken) (c .if3 .left)
-
-  colon-returns-4 : colon-lts.Need-returns-4 (colon-calls t) (colon-at t) colon-reads.Post
-  colon-returns-4 c =
-      behind-full (c .before .before .before .before .before .pre .1 .0) (c .before .before .before .if1 .left) (c .before .if2 .left) (c .if4 .taken)
-
-  -- ── colon: a colon may stand there ──
-  module _ (c : colon-lts.Else4 (colon-calls t) (colon-at t) colon-reads.Post) where
+  -- ── colon ──
+  module _ (c : colon-lts.After-colon-part (colon-calls t) (colon-at t) colon-reads.Post) where
     abbrev start : colon-lts.Start (colon-calls t) (colon-at t) colon-reads.Post
-    start = c .before .before .before .before .before
+    start = c .before .before
 
     abbrev partial : Partial
     partial = sofar (start .args .groups .now) (start .args .count) (start .args .gap)
 
-    abbrev sized : Sized partial
-    sized = start .pre .1 .0
+    abbrev Led : Part → Type 0
+    Led = Leads (start .args .end) (start .args .s .now .now) partial (start .args .i + 1) (behind (gatheredOf partial)) (start .args .i)
+
+    leads : (p : Part) → c .colon-part .result ≡ p → Led p
+    leads p e =
+        subst Led (sym (c .colon-part .ensures) ∙ e)
+        (part-leads (start .args .end) (start .args .s .now .now) partial (start .args .i + 1) (start .pre .1 .0) (start .args .i) (omega arith))
 
     abbrev fits : length (start .args .s .now .now) < 2 ^ 64
     fits = start .pre .1 .1
 
-    abbrev few : partial .count < 8
-    few = c .if4 .left
+  colon-colon-part-requires : colon-lts.Need-colon-part-requires (colon-calls t) (colon-at t) colon-reads.Post
+  colon-colon-part-requires c κs = search needs
 
-    past : {r : Scan} {g : List ℕ} → From (start .args .end) (start .args .s .now .now) (start .args .i + 1) (colon (gatheredOf partial)) r g
-        → From (start .args .end) (start .args .s .now .now) (start .args .i) (behind (gatheredOf partial)) r g
-    past f = behind-colon sized (c .before .before .before .if1 .left) (c .before .if2 .left) few f
+  colon-enum-told : colon-lts.Need-enum-told (colon-calls t) (colon-at t) colon-reads.Post
+  colon-enum-told c = search needs
 
-  colon-add-next : colon-lts.Need-add-next (colon-calls t) (colon-at t) colon-reads.Post
-  colon-add-next c = let h = fits c in omega arith
+  colon-enum-known-at : colon-lts.Need-enum-known-at (colon-calls t) (colon-at t) colon-reads.Post
+  colon-enum-known-at c = search needs
 
-  colon-returns-5 : colon-lts.Need-returns-5 (colon-calls t) (colon-at t) colon-reads.Post
-  colon-returns-5 c = past (c .before) (wants (c .if5 .taken))
+  colon-enum-known-at-2 : colon-lts.Need-enum-known-at-2 (colon-calls t) (colon-at t) colon-reads.Post
+  colon-enum-known-at-2 c = search needs
 
-  colon-shared-slice-read-if6 : colon-lts.Need-shared-slice-read-if6 (colon-calls t) (colon-at t) colon-reads.Post
-  colon-shared-slice-read-if6 c = c .before .if5 .left
+  colon-finished-requires : colon-lts.Need-finished-requires (colon-calls t) (colon-at t) colon-reads.Post
+  colon-finished-requires c κs =
+      let at = c .before .before .before .before .before in
+      let l = leads at _ (c .before .before .before .at2 .given .1) in
+      (l .0, let h = l .1 in let k = fits at in omega arith)
 
-  colon-returns-6 : colon-lts.Need-returns-6 (colon-calls t) (colon-at t) colon-reads.Post
-  colon-returns-6 c =
-      let at = c .before .before .before .before in
-      past at (colon-lone (sized at) (c .before .before .before .if5 .left) (c .before .if6 .taken) (c .if7 .taken))
+  colon-enum-known-at-3 : colon-lts.Need-enum-known-at-3 (colon-calls t) (colon-at t) colon-reads.Post
+  colon-enum-known-at-3 c = search needs
 
   colon-group-requires : colon-lts.Need-group-requires (colon-calls t) (colon-at t) colon-reads.Post
   colon-group-requires c κs =
-      let at = c .before .before .before .before .before .before in
-      (let z = start at .pre .0 in omega arith, (sized at, few at, fits at))
+      let at = c .before .before .before .before .before in
+      let l = leads at _ (c .before .before .before .at3 .given .1) in
+      (let z = start at .pre .0 in let low = l .2 in let h = l .3 in omega arith, (l .0, l .1, fits at))
 
-  colon-returns-7 : colon-lts.Need-returns-7 (colon-calls t) (colon-at t) colon-reads.Post
-  colon-returns-7 c =
-      let at = c .before .before .before .before .before .before .before in
-      past at
-      (colon-group (sized at) (c .before .before .before .before .before .before .if5 .left) (c .before .before .before .before .if6 .taken)
-      (c .before .before .before .if7 .left) (c .group .ensures))
+  colon-returns : colon-lts.Need-returns (colon-calls t) (colon-at t) colon-reads.Post
+  colon-returns c = leads (c .before .before) _ (c .enum-told .given .1) _
 
-  colon-returns-8 : colon-lts.Need-returns-8 (colon-calls t) (colon-at t) colon-reads.Post
-  colon-returns-8 c =
-      let at = c .before .before .before .before in
-      past at (colon-twice (sized at) (c .before .before .before .if5 .left) (c .before .if6 .left) (c .if8 .taken))
+  colon-returns-2 : colon-lts.Need-returns-2 (colon-calls t) (colon-at t) colon-reads.Post
+  colon-returns-2 c = leads (c .before .before .before) _ (c .before .at .given .1) _
 
-  -- ── colon: "::" may stand there ──
-  module _ (c : colon-lts.Else8 (colon-calls t) (colon-at t) colon-reads.Post) where
-    abbrev first : colon-lts.Else4 (colon-calls t) (colon-at t) colon-reads.Post
-    first = c .before .before .before .before
+  colon-returns-3 : colon-lts.Need-returns-3 (colon-calls t) (colon-at t) colon-reads.Post
+  colon-returns-3 c = leads (c .before .before .before .before .before .before) _ (c .before .before .before .before .at2 .given .1) .2 _ _ (c .finished .ensures)
 
-    past-both : {r : Scan} {g : List ℕ}
-        → From (start first .args .end) (start first .args .s .now .now) (start first .args .i + 1 + 1) (gap (held (partial first))) r g
-        → From (start first .args .end) (start first .args .s .now .now) (start first .args .i) (behind (gatheredOf (partial first))) r g
-    past-both f = past first (colon-gap (sized first) (c .before .before .before .if5 .left) (c .before .if6 .left) (c .if8 .left) f)
-
-  colon-add-after : colon-lts.Need-add-after (colon-calls t) (colon-at t) colon-reads.Post
-  colon-add-after c = let h = fits (first c) in omega arith
-
-  colon-returns-9 : colon-lts.Need-returns-9 (colon-calls t) (colon-at t) colon-reads.Post
-  colon-returns-9 c = past-both (c .before) (wants (c .if9 .taken))
-
-  colon-add-counted : colon-lts.Need-add-counted (colon-calls t) (colon-at t) colon-reads.Post
-  colon-add-counted c = let a = few (first (c .before)) in omega arith
-
-  colon-shared-slice-read-if10 : colon-lts.Need-shared-slice-read-if10 (colon-calls t) (colon-at t) colon-reads.Post
-  colon-shared-slice-read-if10 c = c .before .if9 .left
-
-  colon-finished-requires-2 : colon-lts.Need-finished-requires-2 (colon-calls t) (colon-at t) colon-reads.Post
-  colon-finished-requires-2 c κs =
-      let at = first (c .before .before .before .before .before) in
-      (gap-sized (partial at) (sized at) (few at), let h = fits at in omega arith)
-
-  colon-returns-10 : colon-lts.Need-returns-10 (colon-calls t) (colon-at t) colon-reads.Post
-  colon-returns-10 c =
-      let at = c .before .before .before .before .before .before in
-      past-both at
-      (gap-ends (sized (first at)) (few (first at)) (c .before .before .before .before .before .if9 .left) (c .before .before .before .if10 .taken)
-      (c .finished2 .ensures))
-
-  colon-returns-11 : colon-lts.Need-returns-11 (colon-calls t) (colon-at t) colon-reads.Post
-  colon-returns-11 c =
-      let at = c .before .before .before .before in
-      past-both at (gap-full (sized (first at)) (c .before .before .before .if9 .left) (c .before .if10 .left) (c .if11 .taken))
-
-  colon-group-requires-2 : colon-lts.Need-group-requires-2 (colon-calls t) (colon-at t) colon-reads.Post
-  colon-group-requires-2 c κs =
-      let at = first (c .before .before .before .before .before .before) in
-      let most = c .before .before .if11 .left in
-      (let z = start at .pre .0 in omega arith, (gap-sized (partial at) (sized at) (few at), omega arith, fits at))
-
-  colon-returns-12 : colon-lts.Need-returns-12 (colon-calls t) (colon-at t) colon-reads.Post
-  colon-returns-12 c =
-      let at = c .before .before .before .before .before .before .before in
-      past-both at
-      (gap-group (sized (first at)) (few (first at)) (c .before .before .before .before .before .before .if9 .left)
-      (c .before .before .before .before .if10 .left) (c .before .before .before .if11 .left) (c .group2 .ensures))
+  colon-returns-4 : colon-lts.Need-returns-4 (colon-calls t) (colon-at t) colon-reads.Post
+  colon-returns-4 c = leads (c .before .before .before .before .before .before) _ (c .before .before .before .before .at3 .given .1) .4 _ _ (c .group .ensures)
 
   -- ── group ──
   group-loop-holds : group-lts.Need-loop-holds (group-calls t) (group-at t) group-reads.Post group-Inv-loop group-μ-loop
@@ -307,28 +240,17 @@ pub +colon+group-spec : {M : Type 1} → statement M
 +colon+group-spec = close μ-colon μ-group (λ t. colon-lts.spec (colon-calls t)
     (colon-at t)
     colon-reads.Post
-    (colon-returns t)
-    (colon-shared-slice-read-c t)
+    (colon-colon-part-requires t)
+    (colon-enum-told t)
+    (colon-enum-known-at t)
+    (colon-enum-known-at-2 t)
     (colon-finished-requires t)
+    (colon-enum-known-at-3 t)
+    (colon-group-requires t)
+    (colon-returns t)
     (colon-returns-2 t)
     (colon-returns-3 t)
-    (colon-returns-4 t)
-    (colon-add-next t)
-    (colon-returns-5 t)
-    (colon-shared-slice-read-if6 t)
-    (colon-returns-6 t)
-    (colon-group-requires t)
-    (colon-returns-7 t)
-    (colon-returns-8 t)
-    (colon-add-after t)
-    (colon-returns-9 t)
-    (colon-add-counted t)
-    (colon-shared-slice-read-if10 t)
-    (colon-finished-requires-2 t)
-    (colon-returns-10 t)
-    (colon-returns-11 t)
-    (colon-group-requires-2 t)
-    (colon-returns-12 t))
+    (colon-returns-4 t))
     λ t. group-lts.spec
     (hex-value-reads.Asked, hex-value-reads.Learnt, colon-below t, colon-reads.Post)
     (group-at t)

@@ -1,0 +1,33 @@
+-- What a colon part leads to: "a group is followed by a colon part, and a colon part by a group, until the address ends".
+use mathlib.Core.List.{List}
+use Prim.Native.Nat.{ℕ, _+_}
+use Prim.Native.Char.{code}
+use lib.Dec.{eqb, ltb}
+use lib.ListN.{length, getD}
+use Rattle.exact.specs.Pick.{pick}
+use Rattle.colon_part.specs.declared.Part.{Part}
+use Rattle.colon_part.specs.declared.Part.the-variants.{More, Refused, End, Group}
+
+-- at a place of an address that the byte `end` ends, with so many groups
+module _ (end : ℕ) (s : List ℕ) where
+  -- behind "::": the end, or a group; "with at most seven groups"
+  abbrev pub behindDouble : ℕ → ℕ → Part
+  behindDouble at count =
+      pick (ltb at (length s))
+      (pick (eqb (getD s at 0) end) (End at (count + 1) (count + 1)) (pick (ltb count 7) (Group at (count + 1) (count + 1)) (Refused at)))
+      More
+
+  -- behind a colon: "one "::" anywhere", or a group; "No single colon at either end"
+  abbrev pub behindColon : ℕ → ℕ → ℕ → Part
+  behindColon at count gap =
+      pick (ltb at (length s))
+      (pick (eqb (getD s at 0) (code ":")) (pick (ltb 0 gap) (Refused at) (behindDouble (at + 1) count)) (pick (eqb count 0) (Refused at) (Group at count gap)))
+      More
+
+  -- behind a group: a colon, where less than eight groups have come, or the end
+  abbrev pub partAt : ℕ → ℕ → ℕ → Part
+  partAt at count gap =
+      pick (ltb at (length s))
+      (pick (eqb (getD s at 0) (code ":")) (pick (ltb count 8) (behindColon (at + 1) count gap) (Refused at))
+      (pick (eqb (getD s at 0) end) (End at count gap) (Refused at)))
+      More
