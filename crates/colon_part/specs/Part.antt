@@ -17,7 +17,7 @@ module _ (end : ℕ) (s : List ℕ) where
       (pick (eqb (getD s at 0) end) (End at (count + 1) (count + 1)) (pick (ltb count 7) (Group at (count + 1) (count + 1)) (Refused at)))
       More
 
-  -- behind a colon: "one "::" anywhere", or a group; "No single colon at either end"
+  -- behind a colon: another, "one "::" anywhere", or a group; an address begins with no single colon
   abbrev pub behindColon : ℕ → ℕ → ℕ → Part
   behindColon at count gap =
       pick (ltb at (length s))

@@ -9,11 +9,11 @@ ghost use Rattle.colon_part.specs.Part.{behindDouble, behindColon, partA
 pub enum Part {
     // The bytes end before it is known.
     More,
-    // The byte at this place can't stand there.
+    // The byte at this place rules the address out.
     Refused(usize),
-    // The byte at this place ends the address.
+    // The byte that ends an address stands at this place.
     End { at: usize, count: usize, gap: usize },
-    // A group begins at this place.
+    // A group must begin at this place.
     Group { at: usize, count: usize, gap: usize },
 }
 

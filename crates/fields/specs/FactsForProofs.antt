@@ -58,7 +58,7 @@ line-least f r (inr (inr l)) = let h = tcp-least _ _ _ f r l in omega arith
 
 -- a block has 16 bytes and as many as the length in bytes 14 and 15 says
 pub block-bounds : (f : List ℕ) (r : Record) (area : List ℕ) → Block f r area
-    → (length f ≡ 16 + (numberAt f 14)) × (length f ≤ 65551)
+    → (length f ≡ 16 + numberAt f 14) × (length f ≤ 65551)
 block-bounds f r area (inl w) = let h = framed-length _ _ _ f (w .0 .framed) in omega arith
 block-bounds f r area (inr (inl w)) = let h = framed-length _ _ _ f (w .0 .framed) in omega arith
 block-bounds f r area (inr (inr w)) = let h = framed-length _ _ _ f (w .framed) in omega arith

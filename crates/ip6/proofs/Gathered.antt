@@ -40,9 +40,6 @@ module _ (x : Partial) (h : Sized x) where
   pub none-seen : x .count ≡ 0 → gatheredOf x ≡ plain []
   none-seen n = let a = h .within in let e : x .gap ≡ 0 = omega arith in rw (e, n)
 
-  pub plain-seen : x .gap ≡ 0 → gatheredOf x ≡ plain held
-  plain-seen e = rw e
-
 -- ── one group more ──
 push-at : (g v : ℕ) (l : List ℕ) → g ≤ length l → seenAt g (l ++ v ∷ []) ≡ push (seenAt g l) v
 push-at zero v l m = refl

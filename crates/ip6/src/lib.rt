@@ -124,8 +124,8 @@ fn colon(
 {
     match colon_part(*s, i, end, count, gap) {
         Part::More => MORE,
-        Part::Refused(at) => {
-            *place = at;
+        Part::Refused(dead) => {
+            *place = dead;
             REFUSED
         }
         Part::End { at, count, gap } => finished(groups, count, gap, at, place),

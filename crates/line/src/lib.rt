@@ -1,4 +1,4 @@
-// The words of a version 1 line, a field at a time: a stage stands at a place of the bytes, reads its field, and hands on to the next.
+// A version 1 line up to "TCP" or "UNKNOWN", a field at a time: a stage stands at a place of the bytes, reads its field, and hands on to the next.
 // No public function has a `requires`.
 use answer::Refusal;
 use answer::Seen;

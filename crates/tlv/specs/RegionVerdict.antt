@@ -30,7 +30,7 @@ good size room = pick (eqb size room) true (leb (size + 3) room)
 abbrev pub stepByte : Due → ℕ → Move Due ℕ
 stepByte (typeByte n) c = pick (leb 3 n) (go (highByte (n - 3))) dead
 stepByte (highByte room) c = pick (leb (256 * c) room) (go (lowByte c room)) dead
-stepByte (lowByte h room) c = pick (good (number h c) room) (enter (number h c) (room - (number h c))) dead
+stepByte (lowByte h room) c = pick (good (number h c) room) (enter (number h c) (room - number h c)) dead
 stepByte (valueByte v n) c = enter v n
 
 -- no other number is a byte

@@ -84,44 +84,29 @@ module _ (t : ℕ) where
     abbrev fits : length (start .args .s .now .now) < 2 ^ 64
     fits = start .pre .1 .1
 
-  colon-colon-part-requires : colon-lts.Need-colon-part-requires (colon-calls t) (colon-at t) colon-reads.Post
-  colon-colon-part-requires c κs = search needs
-
-  colon-enum-told : colon-lts.Need-enum-told (colon-calls t) (colon-at t) colon-reads.Post
-  colon-enum-told c = search needs
-
-  colon-enum-known-at : colon-lts.Need-enum-known-at (colon-calls t) (colon-at t) colon-reads.Post
-  colon-enum-known-at c = search needs
-
-  colon-enum-known-at-2 : colon-lts.Need-enum-known-at-2 (colon-calls t) (colon-at t) colon-reads.Post
-  colon-enum-known-at-2 c = search needs
-
   colon-finished-requires : colon-lts.Need-finished-requires (colon-calls t) (colon-at t) colon-reads.Post
   colon-finished-requires c κs =
       let at = c .before .before .before .before .before in
-      let l = leads at _ (c .before .before .before .at2 .given .1) in
+      let l = leads at _ (c .before .before .before .at .given .1) in
       (l .0, let h = l .1 in let k = fits at in omega arith)
-
-  colon-enum-known-at-3 : colon-lts.Need-enum-known-at-3 (colon-calls t) (colon-at t) colon-reads.Post
-  colon-enum-known-at-3 c = search needs
 
   colon-group-requires : colon-lts.Need-group-requires (colon-calls t) (colon-at t) colon-reads.Post
   colon-group-requires c κs =
       let at = c .before .before .before .before .before in
-      let l = leads at _ (c .before .before .before .at3 .given .1) in
+      let l = leads at _ (c .before .before .before .at2 .given .1) in
       (let z = start at .pre .0 in let low = l .2 in let h = l .3 in omega arith, (l .0, l .1, fits at))
 
   colon-returns : colon-lts.Need-returns (colon-calls t) (colon-at t) colon-reads.Post
   colon-returns c = leads (c .before .before) _ (c .enum-told .given .1) _
 
   colon-returns-2 : colon-lts.Need-returns-2 (colon-calls t) (colon-at t) colon-reads.Post
-  colon-returns-2 c = leads (c .before .before .before) _ (c .before .at .given .1) _
+  colon-returns-2 c = leads (c .before .before .before) _ (c .before .dead .given .1) _
 
   colon-returns-3 : colon-lts.Need-returns-3 (colon-calls t) (colon-at t) colon-reads.Post
-  colon-returns-3 c = leads (c .before .before .before .before .before .before) _ (c .before .before .before .before .at2 .given .1) .2 _ _ (c .finished .ensures)
+  colon-returns-3 c = leads (c .before .before .before .before .before .before) _ (c .before .before .before .before .at .given .1) .2 _ _ (c .finished .ensures)
 
   colon-returns-4 : colon-lts.Need-returns-4 (colon-calls t) (colon-at t) colon-reads.Post
-  colon-returns-4 c = leads (c .before .before .before .before .before .before) _ (c .before .before .before .before .at3 .given .1) .4 _ _ (c .group .ensures)
+  colon-returns-4 c = leads (c .before .before .before .before .before .before) _ (c .before .before .before .before .at2 .given .1) .4 _ _ (c .group .ensures)
 
   -- ── group ──
   group-loop-holds : group-lts.Need-loop-holds (group-calls t) (group-at t) group-reads.Post group-Inv-loop group-μ-loop
@@ -240,12 +225,12 @@ pub +colon+group-spec : {M : Type 1} → statement M
 +colon+group-spec = close μ-colon μ-group (λ t. colon-lts.spec (colon-calls t)
     (colon-at t)
     colon-reads.Post
-    (colon-colon-part-requires t)
-    (colon-enum-told t)
-    (colon-enum-known-at t)
-    (colon-enum-known-at-2 t)
+    (λ c κs. search needs)
+    (λ c. search needs)
+    (λ c. search needs)
+    (λ c. search needs)
     (colon-finished-requires t)
-    (colon-enum-known-at-3 t)
+    (λ c. search needs)
     (colon-group-requires t)
     (colon-returns t)
     (colon-returns-2 t)
