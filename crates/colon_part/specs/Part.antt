@@ -1,4 +1,5 @@
--- What a colon part leads to: "a group is followed by a colon part, and a colon part by a group, until the address ends".
+-- What a colon part leads to: "a group is followed by a colon part, and a colon part by a group, until the address ends". That the verdict on an
+-- address goes by it is shown in ip6 (`part-leads`).
 use mathlib.Core.List.{List}
 use Prim.Native.Nat.{ℕ, _+_}
 use Prim.Native.Char.{code}
@@ -24,7 +25,7 @@ module _ (end : ℕ) (s : List ℕ) where
       (pick (eqb (getD s at 0) (code ":")) (pick (ltb 0 gap) (Refused at) (behindDouble (at + 1) count)) (pick (eqb count 0) (Refused at) (Group at count gap)))
       More
 
-  -- behind a group: a colon, where less than eight groups have come, or the end
+  -- behind a group: a colon, where fewer than eight groups have come, or the end
   abbrev pub partAt : ℕ → ℕ → ℕ → Part
   partAt at count gap =
       pick (ltb at (length s))
