@@ -2,6 +2,7 @@ pub mod Claim
 pub mod Ascii
 pub mod Network
 pub mod Pick
+pub mod Below
 pub mod Field
 pub mod Sequence
 pub mod Choice

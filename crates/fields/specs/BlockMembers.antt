@@ -11,7 +11,8 @@ use lib.ListN.{length, length-append}
 use borrow.Author.Tests.{eqb-true, eqb-false, eq-eqb, ne-eqb, leb-true, le-leb}
 use Rattle.exact.specs.Claim.{AllBytes}
 use Rattle.exact.specs.Network.{network}
-use Rattle.exact.specs.Pick.{pick, pick-by}
+use Rattle.exact.specs.Pick.{pick}
+use Rattle.exact.specs.Below.{each-below}
 use Rattle.exact.specs.Parser.{just}
 use Rattle.tlv.specs.Tlv.{WellFormed}
 use Rattle.tlv.specs.Room.{filled-fillable}
@@ -354,27 +355,22 @@ command-byte c x e =
     (row (eqb c LOCAL) local x _ e)
 
 -- local is the kind of no byte 13
-abbrev Other : Option Kind → Type 0
-Other o = o ≡ some Local → ⊥
+abbrev notLocal : Option Kind → Bool
+notLocal none = true
+notLocal (some Local) = false
+notLocal (some Unspecified) = true
+notLocal (some (Ip4 t)) = true
+notLocal (some (Ip6 t)) = true
+notLocal (some (Unix t)) = true
 
-never-local : (c : ℕ) → Other (family c)
-never-local c =
-    pick-by Other (eqb c 0x00) (λ t e. never cc)
-    (λ t.
-    pick-by Other (eqb c 0x11) (λ t e. never cc)
-    (λ t.
-    pick-by Other (eqb c 0x12) (λ t e. never cc)
-    (λ t.
-    pick-by Other (eqb c 0x21) (λ t e. never cc)
-    (λ t.
-    pick-by Other (eqb c 0x22) (λ t e. never cc)
-    (λ t. pick-by Other (eqb c 0x31) (λ t e. never cc) (λ t. pick-by Other (eqb c 0x32) (λ t e. never cc) (λ t e. never cc)))))))
-  where
-    never : _≡_ {A = ℕ} 0 1 → ⊥
-    never z = omega arith
+never-local : (c : ℕ) → c < 256 → family c ≡ some Local → ⊥
+never-local c small e =
+    let other = each-below (λ (n : ℕ). notLocal (family n)) 256 c refl small in
+    let z : _≡_ {A = ℕ} 0 1 = cc in
+    omega arith
 
 proxy-block : (k : Kind) (b : ℕ) (f : List ℕ) (h : Header) → b < 256 → family b ≡ some k → familyRest k .field .lang f h → Blocked (Frame PROXY b f) h
-proxy-block Local b f h byte table l = absurd (never-local b table)
+proxy-block Local b f h byte table l = absurd (never-local b byte table)
 proxy-block Unspecified b f h byte table l = unspecified-block b f h byte table (to-skipped (bare Unspecified) f h l)
 proxy-block (Ip4 t) b f h byte table l = address-block (Ip4 t) b f h byte table tt (to-addressed (Ip4 t) f h l)
 proxy-block (Ip6 t) b f h byte table l = address-block (Ip6 t) b f h byte table tt (to-addressed (Ip6 t) f h l)
