@@ -1,15 +1,15 @@
--- What document 01 says of whole headers, proved of their definitions: how long they are, where bytes are refused, and which TLV area and record
+-- What the papers say of whole headers, proved of their definitions: how long they are, where bytes are refused, and which TLV area and record
 -- a header has. Its rules for the two length bytes of a TLV are in crate `tlv`, Rules.
 use mathlib.Core.Path.{_≡_, refl, sym, ap, _∙_, subst}
 use mathlib.Core.List.{List, [], _∷_, _++_}
-use mathlib.Core.Logic.{_⊎_, inl, inr, ⊎-elim}
-use mathlib.Core.Option.{some}
+use mathlib.Core.Logic.{_⊎_, inl, inr, ⊎-elim, _↔_}
+use mathlib.Core.Option.{some, none}
 use Prim.Native.Nat.{ℕ, suc, _+_, _≤_, _<_}
 use native.Mathlib.Nat.{lt-of-not-le}
 use native.Mathlib.Numerals.{add-one}
 use native.Mathlib.Omega.{arith}
 use lib.ListN.{length, getD, take, drop, replicate, length-append}
-use lib.Seq.{split-at, length-take-le, take-suc, drop-at}
+use lib.Seq.{split-at, length-take-le, take-suc, take-length, drop-at}
 use Rattle.exact.specs.Ascii.{ascii}
 use Rattle.exact.specs.Network.{network, number, numberAt}
 use Rattle.exact.specs.Claim.{accepted, more, refused, AllBytes}
@@ -30,12 +30,12 @@ use Rattle.record.specs.declared.Record.{Record}
 use Rattle.record.specs.Kinds.{family, blockLength}
 use Rattle.record.specs.Records.{recordOf, bare, Clean}
 use Rattle.header.specs.Line.{TcpLine, Ip6Address, UnknownLine}
-use Rattle.header.specs.Block.{signature, LOCAL, PROXY, HasAddresses, AddressBlock, Block}
+use Rattle.header.specs.Block.{signature, LOCAL, PROXY, Framed, HasAddresses, AddressBlock, Block}
 use Rattle.header.specs.Header.{Header, Whole}
 use Rattle.header.specs.Demand.{Judges}
 use Rattle.fields.specs.BlockMembers.{addresses-length}
-use Rattle.fields.specs.Exactness.{verdict, judges-stays}
-use Rattle.fields.specs.FactsForProofs.{by-verdict, framed-length, block-bounds, header-least, kept, tcp-kept, group-bytes, unknown-verdict, rest-more, rest-refused, number-eight, high-lives, length-verdict}
+use Rattle.fields.specs.Exactness.{verdict, judges-only, judges-stays}
+use Rattle.fields.specs.FactsForProofs.{by-verdict, framed-length, block-bounds, header-least, kept, tcp-kept, group-bytes, unknown-verdict, rest-more, rest-refused, number-eight, high-lives, family-verdict, no-family, length-verdict}
 
 -- ── the text line ──
 -- "The whole line has at most 107 bytes"
@@ -52,7 +52,7 @@ pub unknown-reached : Judges (accepted unknownHeader 107) (ascii "PROXY UNKNOWN 
 unknown-reached = by-verdict _ (ascii "PROXY UNKNOWN " ++ replicate 91 0 ++ ascii "\r\n") refl
 
 -- 106 bytes of an UNKNOWN line without an end: "PROXY UNKNOWN " and 92 bytes, with no CR followed by LF among them
-module _ (s body : List ℕ) (split : s ≡ ascii "PROXY UNKNOWN " ++ body) (bytes : AllBytes body) (none : NoEnd body) (size : length s ≡ 106) where
+module _ (s body : List ℕ) (split : s ≡ ascii "PROXY UNKNOWN " ++ body) (bytes : AllBytes body) (no-end : NoEnd body) (size : length s ≡ 106) where
   body-size : length body ≡ 92
   body-size = let h = ap length split in omega arith
 
@@ -62,14 +62,14 @@ module _ (s body : List ℕ) (split : s ≡ ascii "PROXY UNKNOWN " ++ body) (byt
   -- "So 106 bytes without an end are still "more" if the last is CR"
   pub unknown-more : getD s 105 0 ≡ CR → Judges more s
   unknown-more e =
-      by-verdict more s (ap verdict split ∙ unknown-verdict body more (rest-more body bytes none body-size (sym same-last ∙ e)))
+      by-verdict more s (ap verdict split ∙ unknown-verdict body more (rest-more body bytes no-end body-size (sym same-last ∙ e)))
 
   -- "and otherwise refused with 5 at place 105", whatever follows
   pub unknown-refused : (getD s 105 0 ≡ CR → ⊥) → (t : List ℕ) → Judges (refused 5 105) (s ++ t)
   unknown-refused other t =
       judges-stays (refused 5 105) s t (λ e. let z : _≡_ {A = ℕ} 0 1 = cc in omega arith)
       (by-verdict (refused 5 105) s
-      (ap verdict split ∙ unknown-verdict body (refused 5 91) (rest-refused body bytes none body-size (λ e. other (same-last ∙ e)))))
+      (ap verdict split ∙ unknown-verdict body (refused 5 91) (rest-refused body bytes no-end body-size (λ e. other (same-last ∙ e)))))
 
 -- "PROXY ", a word, and a space each before an address of at most n bytes, another, a port of at most 5, and another, then CR LF
 tcp-longest : (word : List ℕ) (kind : Kind) (Address : List ℕ → List ℕ → Type 0) (n : ℕ) → ((t a : List ℕ) → Address t a → length t ≤ n)
@@ -117,6 +117,35 @@ lengthField f = numberAt f 14
 -- "the header has 16 + L bytes"
 pub block-length : (f : List ℕ) (r : Record) (area : List ℕ) → Block f r area → length f ≡ 16 + lengthField f
 block-length f r area w = block-bounds f r area w .0
+
+-- what a header with an unspecified family says
+abbrev pub unspecifiedHeader : Header
+unspecifiedHeader = record { «record» = bare Unspecified; version = 2; area = [] }
+
+-- "01, 02, 10, 20 and 30 read as unspecified with the block not looked at and A = 0" (document 02, K1), as 00 does: any L, any block, whatever follows
+pub unspecified-read : (b : ℕ) (block t : List ℕ) → b < 256 → family b ≡ some Unspecified → length block < 65536 → AllBytes block
+    → Judges (accepted unspecifiedHeader (16 + length block)) ((signature ++ PROXY ∷ b ∷ network (length block) ++ block) ++ t)
+unspecified-read b block t byte table small bytes =
+    let f = signature ++ PROXY ∷ b ∷ network (length block) ++ block in
+    let framed : Framed PROXY b block f = record { split = refl; small = small } in
+    let size = framed-length PROXY b block f framed .1 in
+    let whole : Whole f unspecifiedHeader =
+    inr (
+      inr
+          (inl (record { byte13 = b; block = block; framed = framed; byte = byte; table = table; bytes = bytes }, refl, refl)),
+      refl,
+    )
+    in
+    judges-stays (accepted unspecifiedHeader (16 + length block)) f t (λ e. let z : _≡_ {A = ℕ} 0 1 = cc in omega arith)
+    (omega arith, rw (sym size, take-length f) whole)
+
+-- "Refusal 7 is for the rest only"
+pub family-refused : (b : ℕ) (t : List ℕ) → b < 256 → Judges (refused 7 13) (signature ++ PROXY ∷ b ∷ t) ↔ (family b ≡ none)
+family-refused b t small =
+    let s = signature ++ PROXY ∷ b ∷ t in (
+      λ w. no-family b t small (family b) (judges-only (refused 7 13) s w ∙ family-verdict b t small (family b) refl),
+      λ e. by-verdict (refused 7 13) s (family-verdict b t small none e),
+    )
 
 -- "For the six address kinds L must be A, or at least A + 3"
 pub length-rule : (f : List ℕ) (r : Record) (area : List ℕ) → AddressBlock f r area
@@ -209,11 +238,11 @@ area-part f h (inr (inr (inr w), x)) v has =
 
 -- "it is empty for version 1, local, unspecified"
 pub area-empty : (f : List ℕ) (h : Header) → Whole f h → (h .version ≡ 1) ⊎ (HasAddresses (h .«record» .kind) → ⊥) → h .area ≡ []
-area-empty f h (inl w) none = w .2
-area-empty f h (inr (inl w, x)) none = w .2
-area-empty f h (inr (inr (inl w), x)) none = w .2
-area-empty f h (inr (inr (inr w), x)) none =
-    absurd (⊎-elim (λ v. omega arith) (λ no. no (kind-of _ (h .«record») (sym (w .addresses .says)) (w .has))) none)
+area-empty f h (inl w) empty = w .2
+area-empty f h (inr (inl w, x)) empty = w .2
+area-empty f h (inr (inr (inl w), x)) empty = w .2
+area-empty f h (inr (inr (inr w), x)) empty =
+    absurd (⊎-elim (λ v. omega arith) (λ no. no (kind-of _ (h .«record») (sym (w .addresses .says)) (w .has))) empty)
 
 -- "Addresses of 4, 16 or 108 bytes are held by value. Address bytes and ports that a kind does not use are zero; UNIX has no ports"
 pub record-clean : (f : List ℕ) (h : Header) → Whole f h

@@ -4,7 +4,7 @@ use mathlib.Core.Path.{_≡_, refl, sym, ap, ap₂, _∙_, subst}
 use mathlib.Core.Bool.{Bool, false}
 use mathlib.Core.List.{List, [], _∷_, _++_}
 use mathlib.Core.Logic.{inl, inr, ⊎-elim}
-use mathlib.Core.Option.{Option, some}
+use mathlib.Core.Option.{Option, some, none}
 use Prim.Native.Nat.{ℕ, zero, suc, _+_, _-_, _*_, _≤_, _<_}
 use native.Mathlib.Omega.{arith}
 use lib.Dec.{eqb, ltb}
@@ -15,7 +15,7 @@ use Rattle.exact.specs.Ascii.{ascii}
 use Rattle.exact.specs.Network.{network, number, numberAt}
 use Rattle.exact.specs.Claim.{Verdict, accepted, more, refused, AllBytes, Live}
 use Rattle.exact.specs.Field.{after, shift}
-use Rattle.exact.specs.Machine.{Move, done, dead, moved, run}
+use Rattle.exact.specs.Machine.{Move, dead, moved, run}
 use Rattle.exact.specs.Pick.{pick, pick-by}
 use Rattle.exact.specs.Parser.{bytes-front}
 use Rattle.exact.specs.Byte.{zeros, found, stepByte}
@@ -305,6 +305,36 @@ high-lives x h size first high l =
         bytes-enough (x ++ h ∷ []) (o .tail) (length ((x ++ h ∷ []) ++ o .tail)) (o .says)
         (omega arith, rw (take-length ((x ++ h ∷ []) ++ o .tail), all) (o .whole))
 
+-- ── byte 13 under PROXY ──
+module _ (b : ℕ) (t : List ℕ) (small : b < 256) where
+  -- from byte 13 on, by what the table says of it
+  abbrev behindCommand : Option Kind → Verdict Header
+  behindCommand none = refused 7 0
+  behindCommand (some k) = shift 1 (familyRest k .verdict t)
+
+  abbrev byMove : Move (Unit {0}) Kind → Verdict Header
+  byMove m = after (moved 7 m (run 7 (stepByte family) t)) (λ k r. familyRest k .verdict r) (b ∷ t)
+
+  pub family-verdict : (o : Option Kind) → family b ≡ o → verdict (signature ++ PROXY ∷ b ∷ t) ≡ shift 12 (shift 1 (behindCommand o))
+  family-verdict o e =
+      ap (λ (m : Move (Unit {0}) Kind). shift 12 (shift 1 (byMove m)))
+      (ap₂ (λ (x : Bool) (o : Option Kind). pick x (found family o) dead) (lt-ltb b 256 small) e)
+      ∙ ap (λ (v : Verdict Header). shift 12 (shift 1 v)) (told o)
+    where
+      told : (o : Option Kind) → byMove (found family o) ≡ behindCommand o
+      told none = refl
+      told (some k) = refl
+
+  later : (v : Verdict Header) → refused 7 13 ≡ shift 12 (shift 1 (shift 1 v)) → ⊥
+  later (accepted h n) e = let z : _≡_ {A = ℕ} 0 1 = cc in omega arith
+  later more e = let z : _≡_ {A = ℕ} 0 1 = cc in omega arith
+  later (refused k p) e = let z : 13 ≡ 12 + (1 + (1 + p)) = cc in omega arith
+
+  -- refused with 7 only where the table has no row
+  pub no-family : (o : Option Kind) → refused 7 13 ≡ shift 12 (shift 1 (behindCommand o)) → o ≡ none
+  no-family none e = refl
+  no-family (some k) e = absurd (later (familyRest k .verdict t) e)
+
 -- ── a length that does not fit is refused at its low byte ──
 family-addressed : (k : Kind) (s : List ℕ) → HasAddresses k → familyRest k .verdict s ≡ addressed k .verdict s
 family-addressed Local s has = absurd has
@@ -323,13 +353,7 @@ module _ (k : Kind) (b h l : ℕ) (t : List ℕ) (small : b < 256) (high : h < 2
         in
         simp (lt-ltb h 256 high, lt-ltb l 256 low, unfit)
 
-    abbrev behindCommand : Move (Unit {0}) Kind → Verdict Header
-    behindCommand m = after (moved 7 m (run 7 (stepByte family) (h ∷ l ∷ t))) (λ j r. familyRest j .verdict r) (b ∷ h ∷ l ∷ t)
-
     pub length-verdict : family b ≡ some k → HasAddresses k → verdict (signature ++ PROXY ∷ b ∷ h ∷ l ∷ t) ≡ refused 8 15
     length-verdict table has =
-        let step : stepByte family tt b ≡ done k =
-        ap₂ (λ (x : Bool) (o : Option Kind). pick x (found family o) dead) (lt-ltb b 256 small) table
-        in
-        ap (λ (m : Move (Unit {0}) Kind). shift 12 (shift 1 (behindCommand m))) step
+        family-verdict b (h ∷ l ∷ t) small (some k) table
         ∙ ap (λ (v : Verdict Header). shift 12 (shift 1 (shift 1 v))) (family-addressed k (h ∷ l ∷ t) has ∙ low-refused)

@@ -39,7 +39,7 @@ pub record LocalBlock (f : List ℕ) : Type 0 where
   pub byte : byte13 < 256
   pub bytes : AllBytes block
 
--- "00: unspecified, block not looked at"
+-- "00: unspecified, block not looked at"; "01, 02, 10, 20 and 30 read as unspecified with the block not looked at" (document 02, K1)
 pub record UnspecifiedBlock (f : List ℕ) : Type 0 where
   pub byte13 : ℕ
   pub block : List ℕ

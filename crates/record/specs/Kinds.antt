@@ -10,18 +10,24 @@ use Rattle.record.specs.declared.Transport.the-variants.{Stream, Datagra
 use Rattle.record.specs.declared.Kind.{Kind}
 use Rattle.record.specs.declared.Kind.the-variants.{Local, Unspecified, Ip4, Ip6, Unix}
 
--- "PROXY accepts byte 13 as follows; everything else is refused with 7": 00; 11, 12; 21, 22; 31, 32
+-- "PROXY accepts byte 13 as follows": 00; 11, 12; 21, 22; 31, 32 (document 01). "Under PROXY, 01, 02, 10, 20 and 30 read as unspecified with the
+-- block not looked at and A = 0. Refusal 7 is for the rest only" (document 02, K1)
 abbrev pub family : ℕ → Option Kind
 family c =
     pick (eqb c 0x00) (some Unspecified)
+    (pick (eqb c 0x01) (some Unspecified)
+    (pick (eqb c 0x02) (some Unspecified)
+    (pick (eqb c 0x10) (some Unspecified)
     (pick (eqb c 0x11) (some (Ip4 Stream))
     (pick (eqb c 0x12) (some (Ip4 Datagram))
+    (pick (eqb c 0x20) (some Unspecified)
     (pick (eqb c 0x21) (some (Ip6 Stream))
     (pick (eqb c 0x22) (some (Ip6 Datagram))
+    (pick (eqb c 0x30) (some Unspecified)
     (pick (eqb c 0x31) (some (Unix Stream))
-    (pick (eqb c 0x32) (some (Unix Datagram)) none))))))
+    (pick (eqb c 0x32) (some (Unix Datagram)) none)))))))))))
 
--- byte 13 of a kind, as it is written: unspecified and local as 00
+-- byte 13 of a kind, as it is written: unspecified and local as 00 ("The writer keeps writing 00", document 02, K1)
 abbrev pub byteOf : Kind → ℕ
 byteOf Local = 0x00
 byteOf Unspecified = 0x00

@@ -61,12 +61,12 @@ pub enum Family {
     Unknown,
 }
 
-// The kind of byte 13 under PROXY.
+// The kind of byte 13 under PROXY: unspecified where it leaves the family or the transport open.
 pub fn family_of(byte: u8) -> Family
     ensures { λ r. ⌜ toldFamily r ≡ family byte ⌝ }
 {
     match byte {
-        0x00 => Family::Known(Kind::Unspecified),
+        0x00 | 0x01 | 0x02 | 0x10 | 0x20 | 0x30 => Family::Known(Kind::Unspecified),
         0x11 => Family::Known(Kind::Ip4(Transport::Stream)),
         0x12 => Family::Known(Kind::Ip4(Transport::Datagram)),
         0x21 => Family::Known(Kind::Ip6(Transport::Stream)),
