@@ -6,6 +6,6 @@ pub const SIGNATURE: [u8; 12] = *b"\r\n\r\n\0\r\nQUIT\n";
 pub const LOCAL: u8 = 0x20;
 pub const PROXY: u8 = 0x21;
 
-/// Byte 13 of a PROXY header whose block is not looked at. The bytes of the
-/// address kinds stand with the record.
+/// Byte 13 as it is written for local and unspecified. The bytes of the address
+/// kinds stand with the record.
 pub const UNSPECIFIED: u8 = 0x00;

@@ -131,8 +131,10 @@ impl Block {
     fn announced_by(start: &[u8]) -> Block {
         let (command, family) = (start[12], start[13]);
         let end = start.len() + usize::from(u16::from_be_bytes([start[14], start[15]]));
-        let tlv = match Kind::of_family_byte(family) {
-            Some(kind) if command != LOCAL => start.len() + kind.address_block_length(),
+        let tlv = match Kind::of_byte_13(family) {
+            Some(kind) if command != LOCAL && kind.has_addresses() => {
+                start.len() + kind.address_block_length()
+            }
             // The block is not looked at, so no TLVs are known in it.
             _ => end,
         };

@@ -21,7 +21,8 @@ pub enum Kind {
     Unix(Transport),
 }
 
-/// Byte 13 of a PROXY header and the address kind it stands for.
+/// The address kinds, each with the byte it is written as: byte 13 of a PROXY
+/// header, and the kind code of the stored form.
 pub const ADDRESS_KINDS: [(u8, Kind); 6] = [
     (0x11, Kind::Ip4(Transport::Stream)),
     (0x12, Kind::Ip4(Transport::Datagram)),
@@ -32,20 +33,45 @@ pub const ADDRESS_KINDS: [(u8, Kind); 6] = [
 ];
 
 impl Kind {
-    /// The address kind that byte 13 of a PROXY header stands for.
-    pub fn of_family_byte(byte: u8) -> Option<Kind> {
+    /// What byte 13 of a PROXY header says: the family in its high half and the
+    /// transport in its low half. A byte that leaves one of them open, as 0,
+    /// says nothing of the caller (document 02, K1).
+    pub fn of_byte_13(byte: u8) -> Option<Kind> {
+        let transport = match byte & 0x0F {
+            0 => None,
+            1 => Some(Transport::Stream),
+            2 => Some(Transport::Datagram),
+            _ => return None,
+        };
+        let family: Option<fn(Transport) -> Kind> = match byte >> 4 {
+            0 => None,
+            1 => Some(Kind::Ip4),
+            2 => Some(Kind::Ip6),
+            3 => Some(Kind::Unix),
+            _ => return None,
+        };
+        let kind = family.zip(transport).map(|(of, transport)| of(transport));
+        Some(kind.unwrap_or(Kind::Unspecified))
+    }
+
+    /// The address kind that is written as this byte.
+    pub fn of_written_byte(byte: u8) -> Option<Kind> {
         ADDRESS_KINDS
             .into_iter()
-            .find(|&(family, _)| family == byte)
+            .find(|&(written, _)| written == byte)
             .map(|(_, kind)| kind)
     }
 
-    /// Byte 13 of a PROXY header of this kind, if it is an address kind.
-    pub fn family_byte(self) -> Option<u8> {
+    /// The byte that this kind is written as, if it is an address kind.
+    pub fn written_byte(self) -> Option<u8> {
         ADDRESS_KINDS
             .into_iter()
             .find(|&(_, kind)| kind == self)
-            .map(|(family, _)| family)
+            .map(|(written, _)| written)
+    }
+
+    pub fn has_addresses(self) -> bool {
+        self.address_length() > 0
     }
 
     /// Bytes of one address.

@@ -10,7 +10,7 @@ use crate::refusal::{
 const MARK: [u8; 3] = *b"CSR";
 const VERSION: [u8; 2] = [0x00, 0x01];
 
-/// Kind codes without an address block. The others are as byte 13.
+/// Kind codes without an address block. The others are as byte 13 is written.
 const LOCAL_CODE: u8 = 0x00;
 const UNSPECIFIED_CODE: u8 = 0x01;
 
@@ -22,7 +22,7 @@ pub fn store(record: &Record, out: &mut [u8]) -> Result<usize, u8> {
     }
     let code = match record.kind {
         Kind::Local => LOCAL_CODE,
-        kind => kind.family_byte().unwrap_or(UNSPECIFIED_CODE),
+        kind => kind.written_byte().unwrap_or(UNSPECIFIED_CODE),
     };
     let form = [&MARK[..], &VERSION, &[code], &address_block(record)].concat();
     write_whole(&form, out)
@@ -43,7 +43,7 @@ pub fn load(bytes: &[u8]) -> Result<Record, u8> {
     let kind = match code {
         LOCAL_CODE => Kind::Local,
         UNSPECIFIED_CODE => Kind::Unspecified,
-        _ => Kind::of_family_byte(code).ok_or(STORED_KIND_CODE)?,
+        _ => Kind::of_written_byte(code).ok_or(STORED_KIND_CODE)?,
     };
     if block.len() != kind.address_block_length() {
         return Err(STORED_LENGTH);

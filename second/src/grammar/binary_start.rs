@@ -4,18 +4,19 @@
 use super::byte_set::ByteSet;
 use super::expression::{Expr, Grammar};
 use crate::field::Field;
-use crate::fixed_bytes::{LOCAL, PROXY, SIGNATURE, UNSPECIFIED};
-use crate::record::ADDRESS_KINDS;
+use crate::fixed_bytes::{LOCAL, PROXY, SIGNATURE};
+use crate::record::{Kind, ADDRESS_KINDS};
 use crate::tlv::fillable;
 use std::collections::BTreeMap;
 
 pub fn binary_start(g: &Grammar) -> Expr {
     let any_length = g.then(g.any_byte(), g.any_byte());
     let local = start(g, LOCAL, g.any_byte(), any_length);
-    let unspecified = start(g, PROXY, g.byte(UNSPECIFIED), any_length);
-    let address_kinds = ADDRESS_KINDS.map(|(family, kind)| {
+    let says = |kind| g.one_of(ByteSet::of(|byte| Kind::of_byte_13(byte) == Some(kind)));
+    let unspecified = start(g, PROXY, says(Kind::Unspecified), any_length);
+    let address_kinds = ADDRESS_KINDS.map(|(_, kind)| {
         let length = lengths_behind(g, kind.address_block_length());
-        start(g, PROXY, g.byte(family), length)
+        start(g, PROXY, says(kind), length)
     });
     g.either([local, unspecified].into_iter().chain(address_kinds))
 }

@@ -2,7 +2,7 @@
 //! places its length field and its kind name.
 
 use crate::address_block::record_of_block;
-use crate::fixed_bytes::{LOCAL, PROXY, SIGNATURE, UNSPECIFIED};
+use crate::fixed_bytes::{LOCAL, PROXY, SIGNATURE};
 use crate::record::{Kind, Record};
 use crate::verdict::Header;
 
@@ -15,8 +15,7 @@ pub fn header(bytes: &[u8]) -> Option<Header> {
     }
     let (record, tlvs) = match (command, family) {
         (LOCAL, _) => (Record::blank(Kind::Local), 0),
-        (PROXY, UNSPECIFIED) => (Record::blank(Kind::Unspecified), 0),
-        (PROXY, _) => record_and_tlvs(Kind::of_family_byte(family)?, block)?,
+        (PROXY, _) => record_and_tlvs(Kind::of_byte_13(family)?, block)?,
         _ => return None,
     };
     Some(Header {
@@ -27,8 +26,12 @@ pub fn header(bytes: &[u8]) -> Option<Header> {
     })
 }
 
-/// The record, and the number of bytes behind the address block.
+/// The record, and the number of bytes behind the address block. The block of a
+/// kind without addresses is not looked at.
 fn record_and_tlvs(kind: Kind, block: &[u8]) -> Option<(Record, usize)> {
+    if !kind.has_addresses() {
+        return Some((Record::blank(kind), 0));
+    }
     let (addresses, tlvs) = block.split_at_checked(kind.address_block_length())?;
     if !are_tlvs(tlvs) {
         return None;

@@ -13,7 +13,7 @@ pub fn write_v2(record: &Record, area: &[u8], out: &mut [u8]) -> Result<usize, u
     if !unused_is_zero(record) {
         return Err(UNUSED_NOT_ZERO);
     }
-    let family = record.kind.family_byte();
+    let family = record.kind.written_byte();
     let has_tlvs = !tlv_list(area).ok_or(TLV_AREA)?.is_empty();
     if has_tlvs && family.is_none() {
         return Err(TLV_AREA);

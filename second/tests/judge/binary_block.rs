@@ -36,10 +36,13 @@ fn byte_12_is_version_2_with_local_or_proxy() {
 }
 
 #[test]
-fn byte_13_of_proxy_is_one_of_seven() {
+fn byte_13_of_proxy_is_one_of_twelve() {
     for byte in 0..=0xFF {
         let answer = match byte {
-            0x00 | 0x11 | 0x12 | 0x21 | 0x22 | 0x31 | 0x32 => Verdict::More,
+            0x00 | 0x01 | 0x02 => Verdict::More,
+            0x10 | 0x11 | 0x12 => Verdict::More,
+            0x20 | 0x21 | 0x22 => Verdict::More,
+            0x30 | 0x31 | 0x32 => Verdict::More,
             _ => refused(7, 13),
         };
         assert_eq!(judge(&behind_signature(&[0x21, byte])), answer);
@@ -48,7 +51,8 @@ fn byte_13_of_proxy_is_one_of_seven() {
 
 #[test]
 fn the_high_length_byte_is_never_dead() {
-    for family in [0x00, 0x11, 0x12, 0x21, 0x22, 0x31, 0x32] {
+    let address_kinds = ADDRESS_KINDS.map(|(family, ..)| family);
+    for family in UNSPECIFIED.into_iter().chain(address_kinds) {
         for high in 0..=0xFF {
             assert_eq!(
                 judge(&behind_signature(&[0x21, family, high])),
@@ -165,12 +169,38 @@ fn local_takes_any_byte_13_and_any_length() {
 
 #[test]
 fn proxy_unspecified_takes_any_length_and_block() {
-    for length in [0, 1, 2, 3, 12, 13, 300, 65_535] {
-        let input = binary(0x21, 0x00, length, &vec![0xFF; length]);
-        let end = 16 + length;
-        let answer = accepted(bare(Kind::Unspecified), 2, end, end..end);
-        assert_eq!(judge(&input), answer);
-        assert_eq!(judge(&[input, vec![0; 9]].concat()), answer);
+    for family in UNSPECIFIED {
+        for length in [0, 1, 2, 3, 12, 13, 14, 36, 37, 216, 217, 300, 65_535] {
+            let input = binary(0x21, family, length, &vec![0xFF; length]);
+            let end = 16 + length;
+            let answer = accepted(bare(Kind::Unspecified), 2, end, end..end);
+            assert_eq!(judge(&input), answer);
+            assert_eq!(judge(&[&input[..], &[0; 9]].concat()), answer);
+            assert_eq!(judge(&input[..end - 1]), Verdict::More);
+        }
+    }
+}
+
+/// The relay of document 02, K1: PROXY with byte 13 equal to 10 hex. Its block
+/// looks like addresses of IPv4 and is not looked at.
+#[test]
+fn the_suppliers_relay_is_read_as_unspecified() {
+    let header = [
+        0x0D, 0x0A, 0x0D, 0x0A, 0x00, 0x0D, 0x0A, 0x51, 0x55, 0x49, 0x54, 0x0A, // signature
+        0x21, 0x10, 0x00, 0x0C, // PROXY, family without transport, L = 12
+        0xC0, 0xA8, 0x00, 0x01, 0xC0, 0xA8, 0x00, 0x0B, 0xDC, 0x04, 0x01, 0xBB,
+    ];
+    assert_eq!(judge(&header).to_string(), "accepted 28 unspecified");
+    let answer = accepted(bare(Kind::Unspecified), 2, 28, 28..28);
+    assert_eq!(judge(&header), answer);
+}
+
+/// Neighbours of the twelve bytes, with either half one too large.
+#[test]
+fn other_bytes_13_are_refused() {
+    for byte in [0x03, 0x04, 0x13, 0x23, 0x33, 0x40, 0x41, 0x42, 0x80, 0xF0] {
+        let input = binary(0x21, byte, 12, &[0; 12]);
+        assert_eq!(judge(&input), refused(7, 13), "{byte:#04x}");
     }
 }
 

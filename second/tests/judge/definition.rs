@@ -218,13 +218,16 @@ fn random_area(random: &mut Random) -> Vec<u8> {
 }
 
 fn random_binary(random: &mut Random) -> Vec<u8> {
-    let family = random.pick(&[0x00, 0x11, 0x12, 0x21, 0x22, 0x31, 0x32]);
+    let family = match random.once_in(4) {
+        true => random.pick(&UNSPECIFIED),
+        false => random.pick(&[0x11, 0x12, 0x21, 0x22, 0x31, 0x32]),
+    };
     let command = if random.once_in(6) { 0x20 } else { 0x21 };
     let a = match family {
-        0x00 => 0,
         0x11 | 0x12 => 12,
         0x21 | 0x22 => 36,
-        _ => 216,
+        0x31 | 0x32 => 216,
+        _ => 0,
     };
     let mut block: Vec<u8> = (0..a).map(|_| random.byte()).collect();
     block.extend(random_area(random));

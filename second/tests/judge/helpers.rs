@@ -18,6 +18,9 @@ pub const ADDRESS_KINDS: [(u8, Kind, &str, usize); 6] = [
     (0x32, Kind::Unix(Transport::Datagram), "unix-datagram", 216),
 ];
 
+/// Bytes 13 of PROXY that read as unspecified: 00, and those of document 02, K1.
+pub const UNSPECIFIED: [u8; 6] = [0x00, 0x01, 0x02, 0x10, 0x20, 0x30];
+
 pub const IP4_STREAM: Kind = Kind::Ip4(Transport::Stream);
 pub const IP4_DATAGRAM: Kind = Kind::Ip4(Transport::Datagram);
 pub const IP6_STREAM: Kind = Kind::Ip6(Transport::Stream);

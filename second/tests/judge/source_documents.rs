@@ -124,12 +124,13 @@ fn document_003_binary_header() {
     assert_eq!(judge(&dump), refused(1, 0));
 }
 
-/// 003 has other commands and transports "ignored"; document 01 refuses them.
+/// 003 has other commands and transports "ignored"; document 01 refuses them,
+/// and document 02, K1, takes a family without a transport as unspecified.
 #[test]
 fn document_003_other_commands_and_transports() {
     assert_eq!(judge(&behind_signature(&[0x22])), refused(6, 12));
     assert_eq!(judge(&behind_signature(&[0x21, 0x13])), refused(7, 13));
-    assert_eq!(judge(&behind_signature(&[0x21, 0x10])), refused(7, 13));
+    assert_eq!(judge(&behind_signature(&[0x21, 0x10])), Verdict::More);
 }
 
 /// 000 and 001, section 2.2.6: a PP2_TYPE_SSL TLV that holds others, with the

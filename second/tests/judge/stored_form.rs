@@ -120,6 +120,16 @@ fn there_are_eight_kind_codes() {
     }
 }
 
+/// Document 02, K1: "Stored kind codes stay".
+#[test]
+fn half_specified_bytes_are_no_kind_codes() {
+    for code in [0x02, 0x10, 0x20, 0x30] {
+        for length in [6, 18, 42, 222] {
+            assert_eq!(load(&form(code, &vec![0; length - 6])), Err(17));
+        }
+    }
+}
+
 #[test]
 fn the_total_length_must_be_that_of_the_kind() {
     for (code, kind, right) in CODES {
