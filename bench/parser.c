@@ -151,6 +151,11 @@ static enum parser_answer read_block(const uint8_t *bytes, size_t n, struct pars
     c->kind = bytes[13];
     switch (bytes[13]) {
     case 0x00:
+    case 0x01:
+    case 0x02:
+    case 0x10:
+    case 0x20:
+    case 0x30:
         c->kind = UNSPECIFIED;
         return accepted(header, 16 + length, 2, 0);
     case 0x11:

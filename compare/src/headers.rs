@@ -24,6 +24,9 @@ pub fn addresses(size: usize) -> Vec<u8> {
 
 pub const FAMILIES: [(u8, usize); 6] = [(0x11, 12), (0x12, 12), (0x21, 36), (0x22, 36), (0x31, 216), (0x32, 216)];
 
+/// Bytes 13 that leave the family or the transport open (document 02, K1), after 00, which leaves both.
+pub const OPEN: [u8; 6] = [0x00, 0x01, 0x02, 0x10, 0x20, 0x30];
+
 fn with_tlvs(size: usize, tlvs: &[Vec<u8>]) -> Vec<u8> {
     let mut bytes = addresses(size);
     for tlv in tlvs {
@@ -54,8 +57,10 @@ pub fn short() -> Vec<Vec<u8>> {
     all.push(longest);
     all.push(block(0x20, 0x00, b""));
     all.push(block(0x20, 0xff, &addresses(21)));
-    all.push(block(0x21, 0x00, b""));
-    all.push(block(0x21, 0x00, &addresses(7)));
+    for family in OPEN {
+        all.push(block(0x21, family, b""));
+        all.push(block(0x21, family, &addresses(13)));
+    }
     for (family, size) in FAMILIES {
         all.push(block(0x21, family, &addresses(size)));
         all.push(block(0x21, family, &with_tlvs(size, &[tlv(4, 0), tlv(5, 1), tlv(0x20, 5)])));
@@ -73,5 +78,6 @@ pub fn long() -> Vec<Vec<u8>> {
         block(0x21, 0x21, &with_tlvs(36, &vec![tlv(5, 0); 21_828])),
         block(0x20, 0x77, &addresses(65_520)),
         block(0x21, 0x00, &addresses(65_519)),
+        block(0x21, 0x10, &addresses(65_520)),
     ]
 }

@@ -124,7 +124,10 @@ fn text(random: &mut Random) -> Vec<u8> {
 }
 
 fn binary(random: &mut Random) -> Vec<u8> {
-    let (family, size) = headers::FAMILIES[random.below(6)];
+    let (mut family, size) = headers::FAMILIES[random.below(6)];
+    if random.below(4) == 0 {
+        family = headers::OPEN[random.below(6)];
+    }
     let mut body = headers::addresses(size);
     for _ in 0..random.below(5) {
         let length = if random.below(4) == 0 { random.below(400) } else { random.below(6) };

@@ -1,7 +1,7 @@
 //! Comparisons through the C interface.
 use crate::connection::SIZE;
 use crate::random::Random;
-use crate::{connection, expected, hex, library, records, Left};
+use crate::{connection, expected, headers, hex, library, records, Left};
 use second::Verdict;
 
 /// Lengths of lent buffers with room to spare.
@@ -41,6 +41,25 @@ impl Outcome {
         });
         self.same(&library::read(header, NUMBERS, CONNECTION), &expected::read(header, NUMBERS, CONNECTION), || hex(header));
     }
+}
+
+/// Byte 13 with every value under LOCAL and PROXY, and a block of each of these lengths: every prefix around the head's end and the block's, also
+/// with bytes behind. Zeros are TLVs behind an address block; the bytes of `addresses` are none.
+pub fn bytes_13() -> Outcome {
+    let mut outcome = Outcome::new("values of byte 13");
+    for length in [0, 1, 2, 11, 12, 13, 14, 15, 35, 36, 39, 216, 219, 65_535] {
+        for block in [vec![0; length], headers::addresses(length)] {
+            for (command, family) in (0..=255).flat_map(|family| [(0x20, family), (0x21, family)]) {
+                let header = headers::block(command, family, &block);
+                let input = [&header[..], b"GET "].concat();
+                for end in (13..=input.len()).filter(|end| *end <= 17 || header.len() <= *end + 3) {
+                    let input = &input[..end];
+                    outcome.same(&library::read(input, NUMBERS, CONNECTION), &expected::read(input, NUMBERS, CONNECTION), || hex(input));
+                }
+            }
+        }
+    }
+    outcome
 }
 
 /// Record, version, length and TLV area of every input.
@@ -161,16 +180,39 @@ pub fn loads(random: &mut Random, forms: usize) -> Outcome {
     outcome
 }
 
-/// Every length of the numbers and of the connection, lent and given, and every kind code.
+/// Every kind code: of stored forms of zeros, about the lengths of all kinds, and of a connection of zeros and another of ones.
+pub fn kind_codes() -> Outcome {
+    let mut outcome = Outcome::new("kind codes");
+    for code in 0..=255 {
+        for length in (6..=8).chain(17..=19).chain(41..=43).chain(221..=223) {
+            let mut form = b"CSR\x00\x01".to_vec();
+            form.push(code);
+            form.resize(length, 0);
+            outcome.same(&library::load(&form, CONNECTION), &expected::load(&form, CONNECTION), || hex(&form));
+        }
+        for fill in [0, 1] {
+            let mut connection = [fill; SIZE];
+            connection[0] = code;
+            let input = || hex(&connection);
+            outcome.same(&library::write_v1(&connection, 300, NUMBERS), &expected::write_v1(&connection, 300, NUMBERS), input);
+            for area in [&[][..], &[4, 0, 0]] {
+                outcome.same(&library::write_v2(&connection, area, 300, NUMBERS), &expected::write_v2(&connection, area, 300, NUMBERS), input);
+            }
+            outcome.same(&library::store(&connection, 300, NUMBERS), &expected::store(&connection, 300, NUMBERS), input);
+        }
+    }
+    outcome
+}
+
+/// Every length of the numbers and of the connection, lent and given.
 pub fn buffers() -> Outcome {
-    let mut outcome = Outcome::new("buffer lengths and kind codes");
+    let mut outcome = Outcome::new("buffer lengths");
     let line = b"PROXY TCP4 192.168.0.1 192.168.0.11 56324 443\r\n";
     let Verdict::Accepted(header) = second::judge(line) else { panic!("W02 is a whole header") };
     let mut form = vec![0; 18];
     second::store(&header.record, &mut form).expect("room");
     let area = [4, 0, 1, 9];
-    let mut given = connection::bytes(&header.record).to_vec();
-    given.extend([0; 3]);
+    let given = [&connection::bytes(&header.record)[..], &[0; 3]].concat();
     let mut writes = |given: &[u8], numbers: usize, room: usize| {
         let input = || format!("{} with {numbers} numbers in {room} bytes", hex(given));
         outcome.same(&library::write_v1(given, room, numbers), &expected::write_v1(given, room, numbers), input);
@@ -184,10 +226,6 @@ pub fn buffers() -> Outcome {
         for room in 0..60 {
             writes(&given[..SIZE], numbers, room);
         }
-    }
-    for code in 0..=255 {
-        given[0] = code;
-        writes(&given[..SIZE], NUMBERS, 300);
     }
     for numbers in 0..=NUMBERS {
         for length in 0..=CONNECTION {

@@ -18,6 +18,7 @@ fn main() {
     let groups = inputs::groups(SEED, GENERATED);
     let mut random = Random(SEED);
     for outcome in [
+        interface::bytes_13(),
         interface::readings(groups.iter().flat_map(|group| &group.cases)),
         interface::steps(&mut random, GENERATED / 20),
         interface::lookups(&mut random, GENERATED / 20),
@@ -25,6 +26,7 @@ fn main() {
         interface::blocks(&mut random, GENERATED / 40),
         interface::stored(&mut random, GENERATED / 40),
         interface::loads(&mut random, GENERATED),
+        interface::kind_codes(),
         interface::buffers(),
     ] {
         compared += outcome.compared;
