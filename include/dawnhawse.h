@@ -36,9 +36,9 @@
 #include <stdint.h>
 
 /* The release of the library; README says what each of its numbers counts. */
-#define DAWNHAWSE_RELEASE "0.1.0"
+#define DAWNHAWSE_RELEASE "0.2.0"
 #define DAWNHAWSE_RELEASE_MAJOR 0
-#define DAWNHAWSE_RELEASE_MINOR 1
+#define DAWNHAWSE_RELEASE_MINOR 2
 #define DAWNHAWSE_RELEASE_PATCH 0
 
 #ifdef __cplusplus
@@ -142,7 +142,7 @@ extern "C" {
 
 /* Kind codes */
 #define DAWNHAWSE_LOCAL 0x00       /* the proxy's own connection: keep the real addresses */
-#define DAWNHAWSE_UNSPECIFIED 0x01 /* nothing is said of the caller */
+#define DAWNHAWSE_UNSPECIFIED 0x01 /* nothing is said of the caller: UNKNOWN, or byte 13 of PROXY is 00, 01, 02, 10, 20 or 30 */
 #define DAWNHAWSE_IP4_STREAM 0x11
 #define DAWNHAWSE_IP4_DATAGRAM 0x12
 #define DAWNHAWSE_IP6_STREAM 0x21
