@@ -1,8 +1,8 @@
 -- What the papers say of whole headers, proved of their definitions: how long they are, where bytes are refused, and which TLV area and record
--- a header has. Its rules for the two length bytes of a TLV are in crate `tlv`, Rules.
+-- a header has. The rules for the two length bytes of a TLV are in crate `tlv`, Rules.
 use mathlib.Core.Path.{_≡_, refl, sym, ap, _∙_, subst}
 use mathlib.Core.List.{List, [], _∷_, _++_}
-use mathlib.Core.Logic.{_⊎_, inl, inr, ⊎-elim, _↔_}
+use mathlib.Core.Logic.{_⊎_, inl, inr, ⊎-elim}
 use mathlib.Core.Option.{some, none}
 use Prim.Native.Nat.{ℕ, suc, _+_, _≤_, _<_}
 use native.Mathlib.Nat.{lt-of-not-le}
@@ -35,7 +35,7 @@ use Rattle.header.specs.Header.{Header, Whole}
 use Rattle.header.specs.Demand.{Judges}
 use Rattle.fields.specs.BlockMembers.{addresses-length}
 use Rattle.fields.specs.Exactness.{verdict, judges-only, judges-stays}
-use Rattle.fields.specs.FactsForProofs.{by-verdict, framed-length, block-bounds, header-least, kept, tcp-kept, group-bytes, unknown-verdict, rest-more, rest-refused, number-eight, high-lives, family-verdict, no-family, length-verdict}
+use Rattle.fields.specs.FactsForProofs.{by-verdict, framed-length, block-bounds, header-least, kept, tcp-kept, group-bytes, unknown-verdict, rest-more, rest-refused, number-seven, number-eight, high-lives, thirteen, family-verdict, no-family, local-taken, length-verdict}
 
 -- ── the text line ──
 -- "The whole line has at most 107 bytes"
@@ -139,13 +139,32 @@ unspecified-read b block t byte table small bytes =
     judges-stays (accepted unspecifiedHeader (16 + length block)) f t (λ e. let z : _≡_ {A = ℕ} 0 1 = cc in omega arith)
     (omega arith, rw (sym size, take-length f) whole)
 
--- "Refusal 7 is for the rest only"
-pub family-refused : (b : ℕ) (t : List ℕ) → b < 256 → Judges (refused 7 13) (signature ++ PROXY ∷ b ∷ t) ↔ (family b ≡ none)
-family-refused b t small =
-    let s = signature ++ PROXY ∷ b ∷ t in (
-      λ w. no-family b t small (family b) (judges-only (refused 7 13) s w ∙ family-verdict b t small (family b) refl),
-      λ e. by-verdict (refused 7 13) s (family-verdict b t small none e),
-    )
+-- "Refusal 7 is for the rest only": it is given for them
+pub family-refused : (b : ℕ) (t : List ℕ) → b < 256 → family b ≡ none → Judges (refused 7 13) (signature ++ PROXY ∷ b ∷ t)
+family-refused b t small e = by-verdict (refused 7 13) (signature ++ PROXY ∷ b ∷ t) (family-verdict b t small none e)
+
+-- and for nothing else: only under PROXY, at byte 13, where that is none of the twelve
+pub seven-at-thirteen : (s : List ℕ) (p : ℕ) → AllBytes s → Judges (refused 7 p) s
+    → (p ≡ 13) × (getD s 12 0 ≡ PROXY) × (family (getD s 13 0) ≡ none)
+seven-at-thirteen s p bytes x =
+    let inside = x .0 in
+    let n = number-seven (take p s) (x .3) in
+    let size = length-take-le p s (omega arith) in
+    let here : p ≡ 13 = omega arith in
+    let split = split-at s p 0 inside in
+    let byte = bytes-back (take p s) (getD s p 0 ∷ drop (suc p) s) (subst AllBytes split bytes) .0 in
+    let told : refused 7 13 ≡ verdict s = ap (refused 7) (sym here) ∙ judges-only (refused 7 p) s x in
+    let rest = by (getD s p 0) (drop (suc p) s) byte told split (thirteen (take p s) (n .1) (n .0) (x .1)) in
+    (here, rest .0, rest .1)
+  where
+    by : (b : ℕ) (t : List ℕ) → b < 256 → refused 7 13 ≡ verdict s → s ≡ take p s ++ b ∷ t
+        → (take p s ≡ signature ++ LOCAL ∷ []) ⊎ (take p s ≡ signature ++ PROXY ∷ []) → (getD s 12 0 ≡ PROXY) × (family (getD s 13 0) ≡ none)
+    by b t small told split (inl e) =
+        let all : s ≡ signature ++ LOCAL ∷ b ∷ t = split ∙ ap (λ (u : List ℕ). u ++ b ∷ t) e in
+        absurd (local-taken b t small (told ∙ ap verdict all))
+    by b t small told split (inr e) =
+        let all : s ≡ signature ++ PROXY ∷ b ∷ t = split ∙ ap (λ (u : List ℕ). u ++ b ∷ t) e in
+        (rw all, rw all (no-family b t small (family b) (told ∙ ap verdict all ∙ family-verdict b t small (family b) refl)))
 
 -- "For the six address kinds L must be A, or at least A + 3"
 pub length-rule : (f : List ℕ) (r : Record) (area : List ℕ) → AddressBlock f r area

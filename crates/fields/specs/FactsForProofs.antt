@@ -3,7 +3,7 @@
 use mathlib.Core.Path.{_≡_, refl, sym, ap, ap₂, _∙_, subst}
 use mathlib.Core.Bool.{Bool, false}
 use mathlib.Core.List.{List, [], _∷_, _++_}
-use mathlib.Core.Logic.{inl, inr, ⊎-elim}
+use mathlib.Core.Logic.{_⊎_, inl, inr, ⊎-elim}
 use mathlib.Core.Option.{Option, some, none}
 use Prim.Native.Nat.{ℕ, zero, suc, _+_, _-_, _*_, _≤_, _<_}
 use native.Mathlib.Omega.{arith}
@@ -15,10 +15,11 @@ use Rattle.exact.specs.Ascii.{ascii}
 use Rattle.exact.specs.Network.{network, number, numberAt}
 use Rattle.exact.specs.Claim.{Verdict, accepted, more, refused, AllBytes, Live}
 use Rattle.exact.specs.Field.{after, shift}
-use Rattle.exact.specs.Machine.{Move, dead, moved, run}
+use Rattle.exact.specs.Machine.{Move, done, dead, moved, run}
 use Rattle.exact.specs.Pick.{pick, pick-by}
 use Rattle.exact.specs.Parser.{bytes-front}
 use Rattle.exact.specs.Byte.{zeros, found, stepByte}
+use Rattle.exact.specs.Number.{any}
 use Rattle.line_end.specs.Line.{NoEnd}
 use Rattle.line_end.specs.LongLine.{long-more, long-refused}
 use Rattle.tlv.specs.Room.{Fillable, fill}
@@ -33,7 +34,7 @@ use Rattle.header.specs.Header.{Header, Whole, placeNumber, blockNumber, lineNu
 use Rattle.header.specs.Demand.{Judges}
 use Rattle.fields.specs.LineFields.{lined, restField}
 use Rattle.fields.specs.BlockMembers.{addresses-length}
-use Rattle.fields.specs.BlockFields.{blocked, fits, addressed, familyRest, block-small}
+use Rattle.fields.specs.BlockFields.{blocked, fits, skipped, addressed, familyRest, block-small}
 use Rattle.fields.specs.Exactness.{verdict, judges, bytes-enough}
 
 pub by-verdict : (v : Verdict Header) (s : List ℕ) → verdict s ≡ v → Judges v s
@@ -143,17 +144,22 @@ module _ (body : List ℕ) (bytes : AllBytes body) (none : NoEnd body) (size : l
       ∙ long-refused 5 93 front front-bytes last [] (subst NoEnd body-split none) (omega arith) other
       ∙ ap (refused 5) front-size
 
--- ── the places that are numbered 8: bytes 14 and 15 of a block ──
-block-eight : (n : ℕ) → 8 ≡ blockNumber n → (14 ≤ n) × (n ≤ 15)
-block-eight n =
-    let P : ℕ → Type 0 = λ (k : ℕ). 8 ≡ k → (14 ≤ n) × (n ≤ 15) in
-    pick-by P (ltb n 12) (λ t e. omega arith)
+-- ── the places that are numbered 7 and 8: byte 13, and bytes 14 and 15 of a block ──
+abbrev Held : ℕ → ℕ → Type 0
+Held n k = (7 ≡ k → n ≡ 13) × (8 ≡ k → (14 ≤ n) × (n ≤ 15))
+
+block-holds : (n : ℕ) → Held n (blockNumber n)
+block-holds n =
+    pick-by (Held n) (ltb n 12) (λ t. (λ e. omega arith, λ e. omega arith))
     (λ t.
-    pick-by P (ltb n 13) (λ t e. omega arith)
-    (λ t.
-    pick-by P (ltb n 14) (λ t e. omega arith)
+    pick-by (Held n) (ltb n 13) (λ t. (λ e. omega arith, λ e. omega arith))
     (λ low.
-    pick-by P (ltb n 16) (λ high e. let a = ltb-false n 14 low in let b = ltb-true n 16 high in omega arith) (λ t e. omega arith))))
+    let a = ltb-false n 13 low in
+    pick-by (Held n) (ltb n 14) (λ high. (λ e. let b = ltb-true n 14 high in omega arith, λ e. omega arith))
+    (λ low.
+    let a = ltb-false n 14 low in
+    pick-by (Held n) (ltb n 16) (λ high. (λ e. omega arith, λ e. let b = ltb-true n 16 high in omega arith))
+    (λ t. (λ e. omega arith, λ e. omega arith)))))
 
 line-five : (u : List ℕ) → lineNumber u ≤ 5
 line-five u =
@@ -167,11 +173,17 @@ line-five u =
     pick-by P (ltb n 2) (λ t. omega arith)
     (λ t. pick-by P (ltb n 4) (λ t. omega arith) (λ t. pick-by P (ltb n 6) (λ t. omega arith) (λ t. omega arith)))))
 
+-- a number above 5 is that of a place in a block
+above-five : (k : ℕ) (u : List ℕ) → 5 < k → k ≡ placeNumber u → (getD u 0 0 ≡ 13) × (k ≡ blockNumber (length u))
+above-five k u over =
+    pick-by (λ (m : ℕ). k ≡ m → (getD u 0 0 ≡ 13) × (k ≡ blockNumber (length u))) (eqb (getD u 0 0) 13)
+    (λ t e. (eqb-true (getD u 0 0) 13 t, e)) (λ t e. let h = line-five u in absurd (omega arith))
+
+pub number-seven : (u : List ℕ) → 7 ≡ placeNumber u → (getD u 0 0 ≡ 13) × (length u ≡ 13)
+number-seven u e = let v = above-five 7 u (omega arith) e in (v .0, block-holds (length u) .0 (v .1))
+
 pub number-eight : (u : List ℕ) → 8 ≡ placeNumber u → (getD u 0 0 ≡ 13) × (14 ≤ length u) × (length u ≤ 15)
-number-eight u =
-    pick-by (λ (k : ℕ). 8 ≡ k → (getD u 0 0 ≡ 13) × (14 ≤ length u) × (length u ≤ 15)) (eqb (getD u 0 0) 13)
-    (λ t e. let h = block-eight (length u) e in (eqb-true (getD u 0 0) 13 t, h .0, h .1))
-    (λ t e. let h = line-five u in absurd (omega arith))
+number-eight u e = let v = above-five 8 u (omega arith) e in let h = block-holds (length u) .1 (v .1) in (v .0, h .0, h .1)
 
 -- ── no high length byte is dead ──
 no-port : (k : Kind) → PortFits k 0
@@ -281,33 +293,53 @@ line-first f r (inl l) = ⊎-elim (λ e. rw e) (λ w. rw (w .split)) (l .0)
 line-first f r (inr (inl l)) = rw (l .split)
 line-first f r (inr (inr l)) = rw (l .split)
 
-pub high-lives : (x : List ℕ) (h : ℕ) → length x ≡ 14 → getD x 0 0 ≡ 13 → h < 256 → Live Whole x → Live Whole (x ++ h ∷ [])
-high-lives x h size first high l =
+-- a block begins with the bytes x, where some continuation of them is live and byte 0 tells version 2
+block-behind : (x : List ℕ) → 0 < length x → length x ≤ 15 → getD x 0 0 ≡ 13 → Live Whole x
+    → (y : List ℕ) × (a : Header) × Block (x ++ y) (a .«record») (a .area)
+block-behind x one few first l =
     let n = l .2 in
     let t = l .0 in
     let long = header-least (take n (x ++ t)) (l .3) (l .4 .1) in
     let whole-size = length-take-le n (x ++ t) (l .4 .0) in
-    let sum : length x + (n - 14) ≡ n = omega arith in
-    let here : take n (x ++ t) ≡ x ++ take (n - 14) t = ap (λ (m : ℕ). take m (x ++ t)) (sym sum) ∙ take-append-add x t (n - 14) in
-    by (take (n - 14) t) (l .3) (subst (λ (f : List ℕ). Whole f (l .3)) here (l .4 .1))
+    let sum : length x + (n - length x) ≡ n = omega arith in
+    let here : take n (x ++ t) ≡ x ++ take (n - length x) t = ap (λ (m : ℕ). take m (x ++ t)) (sym sum) ∙ take-append-add x t (n - length x) in
+    (take (n - length x) t, l .3, by (take (n - length x) t) (l .3) (subst (λ (f : List ℕ). Whole f (l .3)) here (l .4 .1)))
   where
-    by : (y : List ℕ) (a : Header) → Whole (x ++ y) a → Live Whole (x ++ h ∷ [])
+    by : (y : List ℕ) (a : Header) → Whole (x ++ y) a → Block (x ++ y) (a .«record») (a .area)
     by y a (inl w) =
         let p = line-first (x ++ y) (a .«record») (w .0) in
-        let q = List·getD-append x y 0 0 (omega arith) in
+        let q = List·getD-append x y 0 0 one in
         absurd (omega arith)
-    by y a (inr w) =
-        let o = onward (x ++ y) h high (a .«record») (a .area) (w .0) in
-        let same : x ≡ signature ++ o .command ∷ o .byte13 ∷ [] = sym (take-at x y 14 size) ∙ ap (take 14) (o .split) in
-        let all : (x ++ h ∷ []) ++ o .tail ≡ signature ++ o .command ∷ o .byte13 ∷ h ∷ o .tail =
-        append-snoc x h (o .tail) ∙ ap (λ (z : List ℕ). z ++ h ∷ o .tail) same
-        in
-        bytes-enough (x ++ h ∷ []) (o .tail) (length ((x ++ h ∷ []) ++ o .tail)) (o .says)
-        (omega arith, rw (take-length ((x ++ h ∷ []) ++ o .tail), all) (o .whole))
+    by y a (inr w) = w .0
 
--- ── byte 13 under PROXY ──
+pub high-lives : (x : List ℕ) (h : ℕ) → length x ≡ 14 → getD x 0 0 ≡ 13 → h < 256 → Live Whole x → Live Whole (x ++ h ∷ [])
+high-lives x h size first high l =
+    let w = block-behind x (omega arith) (omega arith) first l in
+    let y = w .0 in
+    let o = onward (x ++ y) h high (w .1 .«record») (w .1 .area) (w .2) in
+    let same : x ≡ signature ++ o .command ∷ o .byte13 ∷ [] = sym (take-at x y 14 size) ∙ ap (take 14) (o .split) in
+    let all : (x ++ h ∷ []) ++ o .tail ≡ signature ++ o .command ∷ o .byte13 ∷ h ∷ o .tail =
+    append-snoc x h (o .tail) ∙ ap (λ (z : List ℕ). z ++ h ∷ o .tail) same
+    in
+    bytes-enough (x ++ h ∷ []) (o .tail) (length ((x ++ h ∷ []) ++ o .tail)) (o .says)
+    (omega arith, rw (take-length ((x ++ h ∷ []) ++ o .tail), all) (o .whole))
+
+-- thirteen bytes that begin a block are the signature and a command
+pub thirteen : (x : List ℕ) → length x ≡ 13 → getD x 0 0 ≡ 13 → Live Whole x → (x ≡ signature ++ LOCAL ∷ []) ⊎ (x ≡ signature ++ PROXY ∷ [])
+thirteen x size first l =
+    let w = block-behind x (omega arith) (omega arith) first l in by (w .0) (w .1) (w .2)
+  where
+    cut : (c b : ℕ) (block y : List ℕ) → Framed c b block (x ++ y) → x ≡ signature ++ c ∷ []
+    cut c b block y framed = sym (take-at x y 13 size) ∙ ap (take 13) (framed .split)
+
+    by : (y : List ℕ) (a : Header) → Block (x ++ y) (a .«record») (a .area) → (x ≡ signature ++ LOCAL ∷ []) ⊎ (x ≡ signature ++ PROXY ∷ [])
+    by y a (inl w) = inl (cut _ _ _ y (w .0 .framed))
+    by y a (inr (inl w)) = inr (cut _ _ _ y (w .0 .framed))
+    by y a (inr (inr w)) = inr (cut _ _ _ y (w .framed))
+
+-- ── byte 13 ──
 module _ (b : ℕ) (t : List ℕ) (small : b < 256) where
-  -- from byte 13 on, by what the table says of it
+  -- from byte 13 on, under PROXY, by what the table says of it
   abbrev behindCommand : Option Kind → Verdict Header
   behindCommand none = refused 7 0
   behindCommand (some k) = shift 1 (familyRest k .verdict t)
@@ -330,10 +362,18 @@ module _ (b : ℕ) (t : List ℕ) (small : b < 256) where
   later more e = let z : _≡_ {A = ℕ} 0 1 = cc in omega arith
   later (refused k p) e = let z : 13 ≡ 12 + (1 + (1 + p)) = cc in omega arith
 
-  -- refused with 7 only where the table has no row
+  -- under PROXY refused with 7 only where the table has no row
   pub no-family : (o : Option Kind) → refused 7 13 ≡ shift 12 (shift 1 (behindCommand o)) → o ≡ none
   no-family none e = refl
   no-family (some k) e = absurd (later (familyRest k .verdict t) e)
+
+  abbrev byLocal : Bool → Verdict Header
+  byLocal x = after (moved 7 (pick x (done b) dead) (run 7 (stepByte any) t)) (λ c r. skipped (bare Local) .verdict r) (b ∷ t)
+
+  -- and under LOCAL never
+  pub local-taken : refused 7 13 ≡ verdict (signature ++ LOCAL ∷ b ∷ t) → ⊥
+  local-taken e =
+      later (skipped (bare Local) .verdict t) (e ∙ ap (λ (x : Bool). shift 12 (shift 1 (byLocal x))) (lt-ltb b 256 small))
 
 -- ── a length that does not fit is refused at its low byte ──
 family-addressed : (k : Kind) (s : List ℕ) → HasAddresses k → familyRest k .verdict s ≡ addressed k .verdict s

@@ -1,4 +1,4 @@
--- The numbers, lengths and words of the kinds (document 01, "The binary block" and "The program").
+-- The numbers, lengths and words of the kinds (document 01, "The binary block" and "The program"; document 02, K1).
 use mathlib.Core.List.{List, _++_}
 use mathlib.Core.Option.{Option, some, none}
 use Prim.Native.Nat.{ℕ, _+_}

@@ -61,7 +61,7 @@ pub enum Family {
     Unknown,
 }
 
-// The kind of byte 13 under PROXY: unspecified where it leaves the family or the transport open.
+// The kind of byte 13 under PROXY.
 pub fn family_of(byte: u8) -> Family
     ensures { λ r. ⌜ toldFamily r ≡ family byte ⌝ }
 {

@@ -39,10 +39,7 @@ fn byte_12_is_version_2_with_local_or_proxy() {
 fn byte_13_of_proxy_is_one_of_twelve() {
     for byte in 0..=0xFF {
         let answer = match byte {
-            0x00 | 0x01 | 0x02 => Verdict::More,
-            0x10 | 0x11 | 0x12 => Verdict::More,
-            0x20 | 0x21 | 0x22 => Verdict::More,
-            0x30 | 0x31 | 0x32 => Verdict::More,
+            0x00..=0x02 | 0x10..=0x12 | 0x20..=0x22 | 0x30..=0x32 => Verdict::More,
             _ => refused(7, 13),
         };
         assert_eq!(judge(&behind_signature(&[0x21, byte])), answer);

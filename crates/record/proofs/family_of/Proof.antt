@@ -54,4 +54,4 @@ family-of-spec =
     (λ c. sym (ap family (c .match .keys7)))
     returns-7
     (λ c. family-alone _ (c .match .keys1))
-    (λ c. transport-alone _ (c .if1 .taken)))
+    (λ c. let low = c .if1 .taken in transport-alone (c .before .before .args .byte) (omega arith)))
