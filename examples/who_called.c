@@ -101,6 +101,9 @@ static const char ip6[] = SIGNATURE "\x21\x21\0\x24"
 static const char abstract[16 + 216 + 1] = SIGNATURE "\x21\x31\0\xd8"
                                                      "\0tester/7";
 static const char local[] = SIGNATURE "\x20\0\0\0";
+/* A relay that names a family without a transport: its twelve bytes are not looked at. */
+static const char relay[] = SIGNATURE "\x21\x10\0\x0c"
+                                      "\xc0\xa8\0\x01\xc0\xa8\0\x0b\xdc\x04\x01\xbb";
 static const char wrong[] = "PROXY TCP4 256.168.0.1 192.168.0.11 56324 443\r\n";
 static const char cut[] = "PROXY TCP4 192.168";
 
@@ -123,6 +126,7 @@ int main(void)
     serve(ip6, sizeof ip6 - 1);
     serve(abstract, sizeof abstract - 1);
     serve(local, sizeof local - 1);
+    serve(relay, sizeof relay - 1);
     serve(wrong, sizeof wrong - 1);
     serve(cut, sizeof cut - 1);
     return 0;
