@@ -66,7 +66,7 @@ extern "C" {
 #define DAWNHAWSE_REFUSED_PORT 4    /* version 1: a port, or the byte that should end it */
 #define DAWNHAWSE_REFUSED_END 5     /* version 1: CR without LF where the line must end, or an UNKNOWN line too long */
 #define DAWNHAWSE_REFUSED_COMMAND 6 /* version 2: byte 12, version or command */
-#define DAWNHAWSE_REFUSED_FAMILY 7  /* version 2: byte 13, family and transport; PROXY takes 00 to 02, 10 to 12, 20 to 22, 30 to 32 */
+#define DAWNHAWSE_REFUSED_FAMILY 7  /* version 2: byte 13, family and transport; PROXY takes 00-02, 10-12, 20-22, 30-32 */
 #define DAWNHAWSE_REFUSED_LENGTH 8  /* version 2: bytes 14 and 15, length */
 #define DAWNHAWSE_REFUSED_TLV 9     /* version 2: a TLV inside the header */
 

@@ -35,7 +35,7 @@ use Rattle.header.specs.Header.{Header, Whole}
 use Rattle.header.specs.Demand.{Judges}
 use Rattle.fields.specs.BlockMembers.{addresses-length}
 use Rattle.fields.specs.Exactness.{verdict, judges-only, judges-stays}
-use Rattle.fields.specs.FactsForProofs.{by-verdict, framed-length, block-bounds, header-least, kept, tcp-kept, group-bytes, unknown-verdict, rest-more, rest-refused, number-seven, number-eight, high-lives, thirteen, family-verdict, no-family, local-taken, length-verdict}
+use Rattle.fields.specs.FactsForProofs.{by-verdict, framed-length, block-bounds, header-least, kept, tcp-kept, group-bytes, unknown-verdict, rest-more, rest-refused, number-seven, number-eight, high-lives, first-thirteen, family-verdict, no-family, local-taken, length-verdict}
 
 -- ── the text line ──
 -- "The whole line has at most 107 bytes"
@@ -154,7 +154,7 @@ seven-at-thirteen s p bytes x =
     let split = split-at s p 0 inside in
     let byte = bytes-back (take p s) (getD s p 0 ∷ drop (suc p) s) (subst AllBytes split bytes) .0 in
     let told : refused 7 13 ≡ verdict s = ap (refused 7) (sym here) ∙ judges-only (refused 7 p) s x in
-    let rest = by (getD s p 0) (drop (suc p) s) byte told split (thirteen (take p s) (n .1) (n .0) (x .1)) in
+    let rest = by (getD s p 0) (drop (suc p) s) byte told split (first-thirteen (take p s) (n .1) (n .0) (x .1)) in
     (here, rest .0, rest .1)
   where
     by : (b : ℕ) (t : List ℕ) → b < 256 → refused 7 13 ≡ verdict s → s ≡ take p s ++ b ∷ t

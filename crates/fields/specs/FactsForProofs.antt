@@ -145,20 +145,20 @@ module _ (body : List ℕ) (bytes : AllBytes body) (none : NoEnd body) (size : l
       ∙ ap (refused 5) front-size
 
 -- ── the places that are numbered 7 and 8: byte 13, and bytes 14 and 15 of a block ──
-abbrev Held : ℕ → ℕ → Type 0
-Held n k = (7 ≡ k → n ≡ 13) × (8 ≡ k → (14 ≤ n) × (n ≤ 15))
+abbrev Located : ℕ → ℕ → Type 0
+Located n k = (7 ≡ k → n ≡ 13) × (8 ≡ k → (14 ≤ n) × (n ≤ 15))
 
-block-holds : (n : ℕ) → Held n (blockNumber n)
-block-holds n =
-    pick-by (Held n) (ltb n 12) (λ t. (λ e. omega arith, λ e. omega arith))
+block-located : (n : ℕ) → Located n (blockNumber n)
+block-located n =
+    pick-by (Located n) (ltb n 12) (λ t. (λ e. omega arith, λ e. omega arith))
     (λ t.
-    pick-by (Held n) (ltb n 13) (λ t. (λ e. omega arith, λ e. omega arith))
+    pick-by (Located n) (ltb n 13) (λ t. (λ e. omega arith, λ e. omega arith))
     (λ low.
     let a = ltb-false n 13 low in
-    pick-by (Held n) (ltb n 14) (λ high. (λ e. let b = ltb-true n 14 high in omega arith, λ e. omega arith))
+    pick-by (Located n) (ltb n 14) (λ high. (λ e. let b = ltb-true n 14 high in omega arith, λ e. omega arith))
     (λ low.
     let a = ltb-false n 14 low in
-    pick-by (Held n) (ltb n 16) (λ high. (λ e. omega arith, λ e. let b = ltb-true n 16 high in omega arith))
+    pick-by (Located n) (ltb n 16) (λ high. (λ e. omega arith, λ e. let b = ltb-true n 16 high in omega arith))
     (λ t. (λ e. omega arith, λ e. omega arith)))))
 
 line-five : (u : List ℕ) → lineNumber u ≤ 5
@@ -180,10 +180,10 @@ above-five k u over =
     (λ t e. (eqb-true (getD u 0 0) 13 t, e)) (λ t e. let h = line-five u in absurd (omega arith))
 
 pub number-seven : (u : List ℕ) → 7 ≡ placeNumber u → (getD u 0 0 ≡ 13) × (length u ≡ 13)
-number-seven u e = let v = above-five 7 u (omega arith) e in (v .0, block-holds (length u) .0 (v .1))
+number-seven u e = let v = above-five 7 u (omega arith) e in (v .0, block-located (length u) .0 (v .1))
 
 pub number-eight : (u : List ℕ) → 8 ≡ placeNumber u → (getD u 0 0 ≡ 13) × (14 ≤ length u) × (length u ≤ 15)
-number-eight u e = let v = above-five 8 u (omega arith) e in let h = block-holds (length u) .1 (v .1) in (v .0, h .0, h .1)
+number-eight u e = let v = above-five 8 u (omega arith) e in let h = block-located (length u) .1 (v .1) in (v .0, h .0, h .1)
 
 -- ── no high length byte is dead ──
 no-port : (k : Kind) → PortFits k 0
@@ -293,10 +293,10 @@ line-first f r (inl l) = ⊎-elim (λ e. rw e) (λ w. rw (w .split)) (l .0)
 line-first f r (inr (inl l)) = rw (l .split)
 line-first f r (inr (inr l)) = rw (l .split)
 
--- a block begins with the bytes x, where some continuation of them is live and byte 0 tells version 2
+-- live bytes whose byte 0 tells version 2 begin some block
 block-behind : (x : List ℕ) → 0 < length x → length x ≤ 15 → getD x 0 0 ≡ 13 → Live Whole x
     → (y : List ℕ) × (a : Header) × Block (x ++ y) (a .«record») (a .area)
-block-behind x one few first l =
+block-behind x begun few first l =
     let n = l .2 in
     let t = l .0 in
     let long = header-least (take n (x ++ t)) (l .3) (l .4 .1) in
@@ -308,7 +308,7 @@ block-behind x one few first l =
     by : (y : List ℕ) (a : Header) → Whole (x ++ y) a → Block (x ++ y) (a .«record») (a .area)
     by y a (inl w) =
         let p = line-first (x ++ y) (a .«record») (w .0) in
-        let q = List·getD-append x y 0 0 one in
+        let q = List·getD-append x y 0 0 begun in
         absurd (omega arith)
     by y a (inr w) = w .0
 
@@ -325,8 +325,8 @@ high-lives x h size first high l =
     (omega arith, rw (take-length ((x ++ h ∷ []) ++ o .tail), all) (o .whole))
 
 -- thirteen bytes that begin a block are the signature and a command
-pub thirteen : (x : List ℕ) → length x ≡ 13 → getD x 0 0 ≡ 13 → Live Whole x → (x ≡ signature ++ LOCAL ∷ []) ⊎ (x ≡ signature ++ PROXY ∷ [])
-thirteen x size first l =
+pub first-thirteen : (x : List ℕ) → length x ≡ 13 → getD x 0 0 ≡ 13 → Live Whole x → (x ≡ signature ++ LOCAL ∷ []) ⊎ (x ≡ signature ++ PROXY ∷ [])
+first-thirteen x size first l =
     let w = block-behind x (omega arith) (omega arith) first l in by (w .0) (w .1) (w .2)
   where
     cut : (c b : ℕ) (block y : List ℕ) → Framed c b block (x ++ y) → x ≡ signature ++ c ∷ []
