@@ -27,7 +27,7 @@ area-read s (Accepted m v) r h n e =
     let said : Header = record { «record» = r .record; version = v; area = areaOf v (r .record .kind) (take m s) } in
     let same : said ≡ h = cc in
     ap (λ (x : Header). x .area) same
-area-read s More r h n e = let z : _≡_ {A = ℕ} 0 1 = cc in absurd (omega arith)
+area-read s (More m) r h n e = let z : _≡_ {A = ℕ} 0 1 = cc in absurd (omega arith)
 area-read s (Refused k p) r h n e = let z : _≡_ {A = ℕ} 0 1 = cc in absurd (omega arith)
 
 -- answer and output: what `write_block` answers for the record r and the area, and what it leaves, as it promises them (`ReadsBack`).

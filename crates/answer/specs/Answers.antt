@@ -77,7 +77,7 @@ areaOf version kind f = pick (eqb version 2) (blockArea kind f) []
 abbrev pub toldVerdict : List ℕ → Verdict → Reading → Claim.Verdict Header
 toldVerdict s (Accepted n v) r =
     accepted (record { «record» = r .record; version = v; area = areaOf v (r .record .kind) (take n s) }) n
-toldVerdict s More r = more
+toldVerdict s (More n) r = more n
 toldVerdict s (Refused k p) r = refused (numberOf k) p
 
 abbrev pub toldReading : List ℕ → Reading → Claim.Verdict Header
@@ -86,7 +86,7 @@ toldReading s r = toldVerdict s (r .verdict) r
 -- where no header is accepted, the record is unspecified
 abbrev pub bareUnless : Verdict → Reading → Type 0
 bareUnless (Accepted n v) r = Unit {0}
-bareUnless More r = r .record ≡ bare Unspecified
+bareUnless (More n) r = r .record ≡ bare Unspecified
 bareUnless (Refused k p) r = r .record ≡ bare Unspecified
 
 -- the answer to the bytes s is the verdict v

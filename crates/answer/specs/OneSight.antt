@@ -23,7 +23,7 @@ refusalOf n = getD (Start ∷ Word ∷ Address ∷ Port ∷ End ∷ Command ∷ 
 -- the verdict as a reader answers it
 abbrev pub verdictBy : Claim.Verdict Header → Verdict
 verdictBy (accepted h n) = Accepted n (h .version)
-verdictBy more = More
+verdictBy (more n) = More n
 verdictBy (refused k p) = Refused (refusalOf k) p
 
 refusal-again : (k : Refusal) → refusalOf (numberOf k) ≡ k
@@ -39,7 +39,7 @@ refusal-again Tlv = refl
 
 verdict-again : (s : List ℕ) (w : Verdict) (r : Reading) → verdictBy (toldVerdict s w r) ≡ w
 verdict-again s (Accepted n v) r = refl
-verdict-again s More r = refl
+verdict-again s (More n) r = refl
 verdict-again s (Refused k p) r = ap (λ (j : Refusal). Refused j p) (refusal-again k)
 
 -- what is seen is this, and nothing else

@@ -36,7 +36,7 @@ callerRecord c =
 -- whether the addresses stand in the bytes read: those of a version 2 header do
 abbrev pub inBytes : Verdict → Bool
 inBytes (Accepted n v) = eqb v 2
-inBytes More = false
+inBytes (More n) = false
 inBytes (Refused k p) = false
 
 -- the record of what is seen in the bytes s: the address block of a version 2 header begins at 16
@@ -54,7 +54,7 @@ callerOf r =
 -- the caller by the verdict: of a version 2 header only the kind, and where no header is accepted nobody
 abbrev pub callerBy : Claim.Verdict Header → Caller
 callerBy (accepted h n) = pick (eqb (h .version) 2) (kindOnly (h .«record» .kind)) (callerOf (h .«record»))
-callerBy more = kindOnly Unspecified
+callerBy (more n) = kindOnly Unspecified
 callerBy (refused k p) = kindOnly Unspecified
 
 -- what is seen in the bytes s, to which the answer is the verdict v

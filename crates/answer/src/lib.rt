@@ -25,8 +25,8 @@ pub enum Refusal {
 pub enum Verdict {
     // They begin with a whole header of this length and version.
     Accepted { length: usize, version: u8 },
-    // They do not yet, and some continuation does.
-    More,
+    // They do not yet, but some continuation does, and so few further bytes could make a whole header.
+    More { least: usize },
     // None does, and the byte at this place is the first that rules it out.
     Refused { refusal: Refusal, place: usize },
 }
@@ -81,11 +81,11 @@ pub fn of_kind(kind: Kind) -> Caller
     }
 }
 
-pub fn more() -> Seen
-    ensures { λ r. ⌜ ((s : List ℕ) → Sees s moreOf r) ⌝ }
+pub fn more(least: usize) -> Seen
+    ensures { λ r. ⌜ ((s : List ℕ) → Sees s (moreOf least) r) ⌝ }
 {
     Seen {
-        verdict: Verdict::More,
+        verdict: Verdict::More { least },
         caller: of_kind(Kind::Unspecified),
     }
 }
@@ -145,7 +145,7 @@ pub fn in_bytes(verdict: Verdict) -> bool
 {
     match verdict {
         Verdict::Accepted { length: _, version } => version == 2,
-        Verdict::More => false,
+        Verdict::More { least: _ } => false,
         Verdict::Refused {
             refusal: _,
             place: _,

@@ -23,7 +23,7 @@ end-within (Accepted n v) kind size = by (eqb v 2) (eqb (blockLength kind) 0)
     by true true = omega arith
     by true false = omega arith
     by false c = omega arith
-end-within More kind size = omega arith
+end-within (More n) kind size = omega arith
 end-within (Refused k p) kind size = omega arith
 
 pub area-inside : (v : Verdict) (kind : Kind) (size : ℕ) → (areaStart v kind size ≤ areaEnd v kind size) × (areaEnd v kind size ≤ size)
@@ -59,5 +59,5 @@ accepted-part n true (Unix t) s = part s 232 n
 pub area-part : (v : Verdict) (kind : Kind) (s : List ℕ)
     → take (areaEnd v kind (length s) - areaStart v kind (length s)) (drop (areaStart v kind (length s)) s) ≡ areaBy v kind s
 area-part (Accepted n v) kind s = accepted-part n (eqb v 2) kind s
-area-part More kind s = nothing s (16 + blockLength kind)
+area-part (More n) kind s = nothing s (16 + blockLength kind)
 area-part (Refused k p) kind s = nothing s (16 + blockLength kind)

@@ -36,7 +36,7 @@ pub fn area_span(verdict: Verdict, kind: Kind, size: usize) -> Span
                 Span { start: 0, end: 0 }
             }
         }
-        Verdict::More => Span { start: 0, end: 0 },
+        Verdict::More { least: _ } => Span { start: 0, end: 0 },
         Verdict::Refused {
             refusal: _,
             place: _,

@@ -5,22 +5,32 @@ use answer::Seen;
 use answer::more;
 use answer::refused;
 use block_body::from_length;
-use block_body::local;
 use exact::Scan;
 use exact::literal;
 use record::Family;
+use record::Kind;
 use record::family_of;
 ghost use lib.ListN.{drop};
 ghost use Rattle.exact.specs.Field.{shift};
-ghost use Rattle.fields.specs.BlockFields.{block as blockField, fromCommand, fromFamily};
+ghost use Rattle.fields.specs.BlockFields.{block as blockField, fromCommand, fromFamily, commandRest, local as underLocal};
 ghost use Rattle.answer.specs.Sight.{Sees};
+
+// From byte 13 on, under LOCAL: it is not looked at.
+fn local(s: &[u8]) -> Seen
+    ensures { λ r. ⌜ Sees (now (s .entry)) (shift 13 (commandRest underLocal .verdict (drop 13 (now (s .entry))))) r ⌝ }
+{
+    if s.len() <= 13 {
+        return more(3);
+    }
+    from_length(s, Kind::Local)
+}
 
 // From byte 13 on, under PROXY.
 fn proxy(s: &[u8]) -> Seen
     ensures { λ r. ⌜ Sees (now (s .entry)) (shift 13 (fromFamily .verdict (drop 13 (now (s .entry))))) r ⌝ }
 {
     if s.len() <= 13 {
-        return more();
+        return more(3);
     }
     match family_of(s[13]) {
         Family::Known(kind) => from_length(s, kind),
@@ -28,12 +38,12 @@ fn proxy(s: &[u8]) -> Seen
     }
 }
 
-// From byte 12 on; under LOCAL byte 13 is not looked at.
+// From byte 12 on.
 fn command(s: &[u8]) -> Seen
     ensures { λ r. ⌜ Sees (now (s .entry)) (shift 12 (fromCommand .verdict (drop 12 (now (s .entry))))) r ⌝ }
 {
     if s.len() <= 12 {
-        return more();
+        return more(4);
     }
     match s[12] {
         0x20 => local(s),
@@ -47,7 +57,7 @@ pub fn block(s: &[u8]) -> Seen
     ensures { λ r. ⌜ Sees (now (s .entry)) (blockField .verdict (now (s .entry))) r ⌝ }
 {
     match literal(s, b"\r\n\r\n\0\r\nQUIT\n") {
-        Scan::More => more(),
+        Scan::More(least) => more(least + 4),
         Scan::Refused(place) => refused(Refusal::Start, place),
         Scan::Accepted(_, _) => command(s),
     }

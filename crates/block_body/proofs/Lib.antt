@@ -1,4 +1,5 @@
 pub mod AddressLaws
+pub mod LengthLaws
 pub mod SkippedLaws
 pub mod AcceptedLaws
 pub mod KindLaws

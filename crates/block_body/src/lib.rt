@@ -14,17 +14,18 @@ use tlv::region;
 ghost use mathlib.Core.Path.{_≡_};
 ghost use mathlib.Core.Bool.{true};
 ghost use mathlib.Core.List.{List};
-ghost use Prim.Native.Nat.{ℕ};
-ghost use lib.ListN.{drop, take};
+ghost use Prim.Native.Nat.{ℕ, _≤_, _<_};
+ghost use lib.ListN.{length, drop, take};
 ghost use Rattle.exact.specs.Claim.{accepted as acceptedOf};
 ghost use Rattle.exact.specs.Field.{shift};
-ghost use Rattle.record.specs.declared.Kind.the-variants.{Local};
 ghost use Rattle.record.specs.Kinds.{blockLength};
 ghost use Rattle.record.specs.Records.{bare};
-ghost use Rattle.fields.specs.BlockFields.{blocked, familyRest, skipped as skippedField, addressed as addressedField, addresses as addressesField, fits as fitsIn};
+ghost use Rattle.fields.specs.BlockFields.{blocked, familyRest, skipped as skippedField, addressed as addressedField, addresses as addressesField};
+ghost use Rattle.fields.specs.Lengths.{fits as fitsIn};
 ghost use Rattle.address_block.specs.AddressBlock.{blockRecord};
 ghost use Rattle.answer.specs.Answers.{areaOf};
 ghost use Rattle.answer.specs.Sight.{Sees};
+ghost use Rattle.block_body.specs.Shortest.{shortest as shortestBehind};
 
 // "L must be A, or at least A + 3."
 fn fits(size: usize, kind: Kind) -> bool
@@ -50,33 +51,50 @@ fn accepted(size: usize, kind: Kind) -> Seen
     }
 }
 
+// How few bytes could follow where the length is not whole: what is missing of it, and the shortest block that it may frame, of which `block` bytes
+// are the least.
+fn shortest(s: &[u8], block: usize) -> usize
+    requires { ⌜ block < 256 ⌝ }
+    ensures { λ r. ⌜ r ≡ shortestBehind block (now (s .entry)) ⌝ }
+{
+    if s.len() <= 14 {
+        return block + 2;
+    }
+    let high = s[14];
+    if high == 0 {
+        block + 1
+    } else {
+        (high as usize) * 256 + 1
+    }
+}
+
 // From 14 on, where the block is not looked at.
 fn skipped(s: &[u8], kind: Kind) -> Seen
     requires { ⌜ blockLength kind ≡ 0 ⌝ }
     ensures { λ r. ⌜ Sees (now (s .entry)) (shift 14 (skippedField (bare kind) .verdict (drop 14 (now (s .entry))))) r ⌝ }
 {
     if s.len() < 16 {
-        return more();
+        return more(shortest(s, 0));
     }
     let end = 16 + (number(s[14], s[15]) as usize);
     if s.len() < end {
-        return more();
+        return more(end - s.len());
     }
     accepted(end, kind)
 }
 
 // From 16 on: the address block, and the TLVs that fill the rest of the length.
 fn addresses(s: &[u8], kind: Kind, size: usize) -> Seen
-    requires { ⌜ (blockLength kind ≡ 0 → ⊥) × (fitsIn (blockLength kind) size ≡ true) ⌝ }
+    requires { ⌜ (blockLength kind ≡ 0 → ⊥) × (fitsIn (blockLength kind) size ≡ true) × (16 ≤ length (now s)) × (size < 65536) ⌝ }
     ensures { λ r. ⌜ Sees (now (s .entry)) (shift 16 (addressesField kind size .verdict (drop 16 (now (s .entry))))) r ⌝ }
 {
     let block = block_length(kind);
     let at = 16 + block;
     if s.len() < at {
-        return more();
+        return more(16 + size - s.len());
     }
     match region(&s[at..], size - block) {
-        Scan::More => more(),
+        Scan::More(least) => more(least),
         Scan::Refused(place) => refused(Refusal::Tlv, at + place),
         Scan::Accepted(_, n) => accepted(at + n, kind),
     }
@@ -88,7 +106,7 @@ fn addressed(s: &[u8], kind: Kind) -> Seen
     ensures { λ r. ⌜ Sees (now (s .entry)) (shift 14 (addressedField kind .verdict (drop 14 (now (s .entry))))) r ⌝ }
 {
     if s.len() < 16 {
-        return more();
+        return more(shortest(s, block_length(kind)));
     }
     let size = number(s[14], s[15]) as usize;
     if fits(size, kind) {
@@ -98,14 +116,7 @@ fn addressed(s: &[u8], kind: Kind) -> Seen
     }
 }
 
-// From 14 on, under LOCAL.
-pub fn local(s: &[u8]) -> Seen
-    ensures { λ r. ⌜ Sees (now (s .entry)) (shift 14 (skippedField (bare Local) .verdict (drop 14 (now (s .entry))))) r ⌝ }
-{
-    skipped(s, Kind::Local)
-}
-
-// From 14 on, under PROXY, where byte 13 says the kind.
+// From 14 on: under LOCAL, or under PROXY where byte 13 says the kind.
 pub fn from_length(s: &[u8], kind: Kind) -> Seen
     ensures { λ r. ⌜ Sees (now (s .entry)) (shift 14 (familyRest kind .verdict (drop 14 (now (s .entry))))) r ⌝ }
 {

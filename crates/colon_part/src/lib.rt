@@ -2,13 +2,13 @@
 // No public function has a `requires`.
 ghost use mathlib.Core.Path.{_≡_};
 ghost use Prim.Native.Nat.{_<_};
-ghost use Rattle.colon_part.specs.Part.{behindDouble, behindColon, partAt};
+ghost use Rattle.colon_part.specs.Part.{leastBehind, behindDouble, behindColon, partAt};
 
 // What a colon part leads to. count counts the groups so far; "::" counts as one of them, and gap counts those up to and with it; gap is 0 while
 // it has not come.
 pub enum Part {
-    // The bytes end before it is known.
-    More,
+    // The bytes end before it is known, and so few could finish the address.
+    More(usize),
     // The byte at this place rules the address out.
     Refused(usize),
     // The byte that ends an address stands at this place.
@@ -17,13 +17,24 @@ pub enum Part {
     Group { at: usize, count: usize, gap: usize },
 }
 
+// How few bytes could finish an address behind a group: its end, or "::" and its end.
+pub fn least_behind(count: usize, gap: usize) -> usize
+    ensures { λ r. ⌜ r ≡ leastBehind count gap ⌝ }
+{
+    if gap == 0 {
+        if count == 8 { 1 } else { 3 }
+    } else {
+        1
+    }
+}
+
 // Behind "::".
 fn behind_double(s: &[u8], at: usize, end: u8, count: usize) -> Part
     requires { ⌜ count < 8 ⌝ }
     ensures { λ r. ⌜ r ≡ behindDouble end (now (s .entry)) at count ⌝ }
 {
     if s.len() <= at {
-        return Part::More;
+        return Part::More(1);
     }
     let counted = count + 1;
     if s[at] == end {
@@ -49,7 +60,7 @@ fn behind_colon(s: &[u8], at: usize, end: u8, count: usize, gap: usize) -> Part
     ensures { λ r. ⌜ r ≡ behindColon end (now (s .entry)) at count gap ⌝ }
 {
     if s.len() <= at {
-        return Part::More;
+        return Part::More(2);
     }
     if s[at] == b':' {
         if 0 < gap {
@@ -68,7 +79,7 @@ pub fn colon_part(s: &[u8], at: usize, end: u8, count: usize, gap: usize) -> Par
     ensures { λ r. ⌜ r ≡ partAt end (now (s .entry)) at count gap ⌝ }
 {
     if s.len() <= at {
-        return Part::More;
+        return Part::More(least_behind(count, gap));
     }
     let c = s[at];
     if c == b':' {

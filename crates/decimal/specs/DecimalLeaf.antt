@@ -7,18 +7,18 @@ use native.Mathlib.Nat.{le-refl}
 use native.Mathlib.Omega.{arith}
 use lib.Dec.{eqb, leb}
 use lib.ListN.{length}
-use borrow.Author.Tests.{eqb-true, eqb-false, leb-true, leb-false}
+use borrow.Author.Tests.{eqb-true, eqb-false, eq-eqb, leb-true, leb-false, le-leb}
 use Rattle.exact.specs.Claim.{AllBytes}
-use Rattle.exact.specs.Field.{Exact}
-use Rattle.exact.specs.MachineLaws.{machine-exact, Sound}
+use Rattle.exact.specs.Field.{Least, flat, Exact}
+use Rattle.exact.specs.MachineLaws.{machine-exact, least-at, Sound, Attains, NoLess, Leasts}
 use Rattle.exact.specs.Machine.{leaf, Move}
 use Rattle.exact.specs.Pick.{pick-by}
 use Rattle.exact.specs.Parser.{Parser, ended-bytes}
 use Rattle.exact.specs.Ended.{Ended}
 use Rattle.decimal.specs.Decimal.{Digit, Digits, Plain, valueOn, Decimal}
-use Rattle.exact.specs.Verdicts.{Within, Keeps, run-within}
+use Rattle.exact.specs.Verdicts.{Within, Keeps, run-within, Few, run-few}
 use Rattle.exact.specs.Endings.{ended-solid, ended-first, ended-more, ended-last, ended-map}
-use Rattle.decimal.specs.DecimalVerdict.{At, start, behind, digit, stepDecimal, decimalVerdict}
+use Rattle.decimal.specs.DecimalVerdict.{At, start, behind, digit, stepDecimal, leastDecimal, decimalVerdict}
 
 -- ── what may follow ──
 -- the digits f behind those that make m
@@ -75,10 +75,6 @@ module _ (bound c : ℕ) (f : List ℕ) (n : ℕ) where
 
   too-large : (m : ℕ) → bound < m → Tail bound m f n → ⊥
   too-large m h t = let g = grows m f in let v = t .value in let b = t .fits in omega arith
-
--- "0"
-pub zero-text : (bound : ℕ) → Decimal bound (48 ∷ []) 0
-zero-text bound = record { digits = (omega arith, tt); plain = tt; value = refl; fits = omega arith }
 
 -- ── the step is sound ──
 module _ (bound end : ℕ) where
@@ -146,14 +142,44 @@ module _ (bound end : ℕ) where
         ))
         (λ n e. absurd (other e))))
 
-    opens-decimal : (q : At) → Ok bound q → (f : List ℕ) × (n : ℕ) × Follows q f n
-    opens-decimal start ok = (48 ∷ end ∷ [], 0, record { text = 48 ∷ []; split = refl; whole = zero-text bound })
-    opens-decimal (behind m) ok = (end ∷ [], m, ended-last (Tail bound m) end m (ends-tail m ok))
+    module _ (m : ℕ) where
+      digit-no-less : (n c j : ℕ) → j ≤ 2 + m → NoLess (leastDecimal m) (flat m) j (digit bound n c)
+      digit-no-less n c j h =
+          let P = NoLess (leastDecimal m) (flat m) j in
+          pick-by P (leb 48 c)
+          (λ low.
+          pick-by P (leb c 57) (λ high. pick-by P (leb (n * 10 + (c - 48)) bound) (λ fits. omega arith) (λ over. tt)) (λ high. tt))
+          (λ low. tt)
 
-    pub decimal-exact : (k : ℕ) (s : List ℕ) → Exact (leaf k (Ended (Decimal bound) end)) (decimalVerdict k bound end s) s
-    decimal-exact k s =
-        machine-exact k Follows (Ok bound) (stepDecimal bound end) opens-decimal (λ q ok n l. ended-solid (Rest bound q) end n l)
-        sound-decimal s start tt
+      no-less-decimal : (q : At) (c : ℕ) → Ok bound q → NoLess (leastDecimal m) (flat m) (leastDecimal m q) (stepDecimal bound end q c)
+      no-less-decimal start c ok = digit-no-less 0 c (2 + m) (omega arith)
+      no-less-decimal (behind n) c ok =
+          let P = NoLess (leastDecimal m) (flat m) (1 + m) in
+          pick-by P (eqb c end) (λ t. omega arith)
+          (λ t. pick-by P (eqb n 0) (λ z. tt) (λ z. digit-no-less n c (1 + m) (omega arith)))
+
+      byte-decimal : (q : At) → Ok bound q → ℕ
+      byte-decimal start ok = 48
+      byte-decimal (behind n) ok = end
+
+      -- "0", and then the end
+      attains-decimal : (q : At) (ok : Ok bound q) → Attains (leastDecimal m) (flat m) (leastDecimal m q) (stepDecimal bound end q (byte-decimal q ok))
+      unfolding byte-decimal
+      attains-decimal start ok = rw (le-leb (0 * 10 + (48 - 48)) bound (omega arith)) (omega arith)
+      attains-decimal (behind n) ok = rw (eq-eqb end end refl) (omega arith)
+
+      leasts-decimal : Leasts (Ok bound) (stepDecimal bound end) (leastDecimal m) (flat m)
+      leasts-decimal = record { byte = byte-decimal; attains = attains-decimal; no-less = no-less-decimal }
+
+      pub decimal-exact : (k : ℕ) (s : List ℕ) → Exact (leaf k (Ended (Decimal bound) end)) (flat m) (decimalVerdict k m bound end s) s
+      decimal-exact k s =
+          machine-exact k Follows (Ok bound) (stepDecimal bound end) (leastDecimal m) (flat m) leasts-decimal
+          (λ q ok n l. ended-solid (Rest bound q) end n l) sound-decimal s start tt
+
+      pub decimal-least : (k : ℕ) → Least (leaf k (Ended (Decimal bound) end)) (flat m) (2 + m) []
+      decimal-least k =
+          least-at k Follows (Ok bound) (stepDecimal bound end) (leastDecimal m) (flat m) leasts-decimal
+          (λ q ok n l. ended-solid (Rest bound q) end n l) sound-decimal start tt
 
 -- ── the parser ──
 digits-bytes : (f : List ℕ) → Digits f → AllBytes f
@@ -163,17 +189,18 @@ digits-bytes (c ∷ f) d = (let h = d .0 .1 in omega arith, digits-bytes f (d .1
 pub decimal-bytes : (bound : ℕ) (f : List ℕ) (n : ℕ) → Decimal bound f n → AllBytes f
 decimal-bytes bound f n l = digits-bytes f (l .digits)
 
-abbrev pub decimal : (k bound end : ℕ) → (Digit end → ⊥) → end < 256 → Parser ℕ
-decimal k bound end apart small =
+abbrev pub decimal : (k m bound end : ℕ) → (Digit end → ⊥) → end < 256 → Parser ℕ (flat m)
+decimal k m bound end apart small =
     record {
       field = leaf k (Ended (Decimal bound) end);
-      verdict = decimalVerdict k bound end;
-      exact = decimal-exact bound end apart k;
-      opens = record { tail = 48 ∷ end ∷ []; value = 0; whole = record { text = 48 ∷ []; split = refl; whole = zero-text bound } };
+      verdict = decimalVerdict k m bound end;
+      exact = decimal-exact bound end apart m k;
+      least = 2 + m;
+      opens = decimal-least bound end apart m k;
       bytes = ended-bytes (Decimal bound) end small (decimal-bytes bound);
     }
 
--- ── whatever ends it, an accepted number is at most the bound ──
+-- ── whatever ends it, an accepted number is at most the bound, and a count at most 2 ──
 module _ (bound end : ℕ) where
   abbrev Keep : Move At ℕ → Type 0
   Keep = Keeps (Ok bound) (λ (n : ℕ). n ≤ bound)
@@ -190,5 +217,12 @@ module _ (bound end : ℕ) where
   step-keeps (behind n) c ok =
       pick-by Keep (eqb c end) (λ t. ok) (λ t. pick-by Keep (eqb n 0) (λ z. tt) (λ z. digit-keeps n c))
 
-  pub decimal-within : (k : ℕ) (s : List ℕ) → Within (λ (n : ℕ). n ≤ bound) (length s) (decimalVerdict k bound end s)
-  decimal-within k s = run-within (Ok bound) (λ (n : ℕ). n ≤ bound) k (stepDecimal bound end) step-keeps s start tt
+  pub decimal-within : (k m : ℕ) (s : List ℕ) → Within (λ (n : ℕ). n ≤ bound) (length s) (decimalVerdict k m bound end s)
+  decimal-within k m s = run-within (Ok bound) (λ (n : ℕ). n ≤ bound) k (stepDecimal bound end) (leastDecimal m) step-keeps s start tt
+
+  pub decimal-few : (k m : ℕ) (s : List ℕ) → Few (2 + m) (decimalVerdict k m bound end s)
+  decimal-few k m s = run-few (2 + m) k (stepDecimal bound end) (leastDecimal m) most s start
+    where
+      most : (q : At) → leastDecimal m q ≤ 2 + m
+      most start = omega arith
+      most (behind n) = omega arith

@@ -20,5 +20,11 @@ abbrev pub stepDecimal : ℕ → ℕ → At → ℕ → Move At ℕ
 stepDecimal bound end start c = digit bound 0 c
 stepDecimal bound end (behind n) c = pick (eqb c end) (done n) (pick (eqb n 0) dead (digit bound n c))
 
-abbrev pub decimalVerdict : (k bound end : ℕ) → List ℕ → Verdict ℕ
-decimalVerdict k bound end s = run k (stepDecimal bound end) s start
+-- a digit and the end, or the end, and then m
+abbrev pub leastDecimal : ℕ → At → ℕ
+leastDecimal m start = 2 + m
+leastDecimal m (behind n) = 1 + m
+
+-- m is what is asked behind the number
+abbrev pub decimalVerdict : (k m bound end : ℕ) → List ℕ → Verdict ℕ
+decimalVerdict k m bound end s = run k (stepDecimal bound end) (leastDecimal m) s start

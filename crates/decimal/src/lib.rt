@@ -36,11 +36,11 @@ fn grow(n: u32, c: u8, bound: u32) -> Grown
 // A decimal number up to the bound, with no leading zero, that the byte end ends. An end that is a digit ends the number where it
 // first stands behind another digit.
 pub fn decimal(s: &[u8], bound: u32, end: u8) -> Scan
-    ensures verdict { λ r. ⌜ ((k : ℕ) → told k r ≡ decimalVerdict k bound end (now (s .entry))) ⌝ }
-    ensures claim { λ r. ⌜ ((k : ℕ) → (Digit end → ⊥) → Claim (Ended (Decimal bound) end) (λ u. k) (told k r) (now (s .entry))) ⌝ }
+    ensures verdict { λ r. ⌜ ((k m : ℕ) → told k m r ≡ decimalVerdict k m bound end (now (s .entry))) ⌝ }
+    ensures claim { λ r. ⌜ ((k : ℕ) → (Digit end → ⊥) → Claim (Ended (Decimal bound) end) (λ u. k) (told k 0 r) (now (s .entry))) ⌝ }
 {
     if s.len() == 0 {
-        return Scan::More;
+        return Scan::More(2);
     }
     let Grown::Number(first) = grow(0, s[0], bound) else {
         return Scan::Refused(0);
@@ -61,5 +61,5 @@ pub fn decimal(s: &[u8], bound: u32, end: u8) -> Scan
         n = m;
         i += 1;
     }
-    Scan::More
+    Scan::More(1)
 }

@@ -1,7 +1,7 @@
 -- One literal text: its verdict, byte by byte.
 use mathlib.Core.Path.{_≡_}
 use mathlib.Core.List.{List, [], _∷_}
-use Prim.Native.Nat.{ℕ, _≤_, _<_}
+use Prim.Native.Nat.{ℕ, _+_, _≤_, _<_}
 use lib.Dec.{eqb}
 use lib.ListN.{length, getD}
 use Rattle.exact.specs.Claim.{Verdict, accepted}
@@ -19,10 +19,14 @@ abbrev pub stepLiteral : {A : Type 0} → A → List ℕ → ℕ → Move (List 
 stepLiteral v [] c = dead
 stepLiteral v (x ∷ w) c = pick (eqb c x) (nextLiteral v w) dead
 
--- no bytes are there at once
-abbrev pub literal : {A : Type 0} → ℕ → A → List ℕ → List ℕ → Verdict A
-literal k v [] s = accepted v 0
-literal k v (x ∷ w) s = run k (stepLiteral v) s (x ∷ w)
+-- the bytes that are left, and then m
+abbrev pub leastLiteral : ℕ → List ℕ → ℕ
+leastLiteral m w = length w + m
+
+-- m is what is asked behind the text; no bytes are there at once
+abbrev pub literal : {A : Type 0} → ℕ → ℕ → A → List ℕ → List ℕ → Verdict A
+literal k m v [] s = accepted v 0
+literal k m v (x ∷ w) s = run k (stepLiteral v) (leastLiteral m) s (x ∷ w)
 
 -- n is how many first bytes s and w have in common
 pub record Common (s w : List ℕ) (n : ℕ) : Type 0 where

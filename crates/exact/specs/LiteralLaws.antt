@@ -1,18 +1,22 @@
 -- For proofs. The leaf of one literal text.
 use mathlib.Core.Path.{_≡_, refl, sym, ap, subst}
 use mathlib.Core.Bool.{Bool}
-use mathlib.Core.List.{List, [], _∷_}
-use Prim.Native.Nat.{ℕ}
+use mathlib.Core.List.{List, [], _∷_, _++_}
+use Prim.Native.Nat.{ℕ, _≤_}
 use native.Mathlib.Omega.{arith}
 use lib.Dec.{eqb}
-use borrow.Author.Tests.{eqb-true, eqb-false}
-use Rattle.exact.specs.Claim.{AllBytes}
-use Rattle.exact.specs.Field.{Exact}
-use Rattle.exact.specs.MachineLaws.{machine-exact, Sound}
+use borrow.Author.Tests.{eqb-true, eqb-false, eq-eqb}
+use lib.ListN.{length, length-append}
+use Rattle.exact.specs.Claim.{AllBytes, Claim}
+use Rattle.exact.specs.Scans.{told}
+use Rattle.exact.specs.declared.Scan.{Scan}
+use Rattle.exact.specs.declared.Scan.the-variants.{More}
+use Rattle.exact.specs.Field.{Least, Exact}
+use Rattle.exact.specs.MachineLaws.{machine-exact, least-at, Sound, Attains, NoLess, Leasts}
 use Rattle.exact.specs.Machine.{leaf}
 use Rattle.exact.specs.Pick.{pick-by}
 use Rattle.exact.specs.Parser.{Parser, Starts}
-use Rattle.exact.specs.Literal.{Literal, nextLiteral, stepLiteral, literal}
+use Rattle.exact.specs.Literal.{Literal, nextLiteral, stepLiteral, leastLiteral, literal}
 
 abbrev NonEmpty : List ℕ → Type 0
 NonEmpty [] = ⊥
@@ -34,7 +38,34 @@ module _ {A : Type 0} (k : ℕ) (v : A) where
       pick-by (Sound (Literal v) NonEmpty (x ∷ w) c) (eqb c x) (λ t. next-literal c x w (eqb-true c x t))
       (λ t f a l. eqb-false c x t (let h = l .0 in cc))
 
-  pub literal-exact : (w s : List ℕ) → Exact (leaf k (Literal v w)) (literal k v w s) s
+module _ {A : Type 0} (v : A) (u : A → ℕ) where
+  byte-literal : (w : List ℕ) → NonEmpty w → ℕ
+  byte-literal [] ok = absurd ok
+  byte-literal (x ∷ w) ok = x
+
+  next-attains : (x : ℕ) (w : List ℕ) → Attains (leastLiteral (u v)) u (leastLiteral (u v) (x ∷ w)) (nextLiteral v w)
+  next-attains x [] = omega arith
+  next-attains x (y ∷ w) = omega arith
+
+  attains-literal : (w : List ℕ) (ok : NonEmpty w) → Attains (leastLiteral (u v)) u (leastLiteral (u v) w) (stepLiteral v w (byte-literal w ok))
+  unfolding byte-literal
+  attains-literal [] ok = absurd ok
+  attains-literal (x ∷ w) ok = rw (eq-eqb x x refl) (next-attains x w)
+
+  next-no-less : (x : ℕ) (w : List ℕ) → NoLess (leastLiteral (u v)) u (leastLiteral (u v) (x ∷ w)) (nextLiteral v w)
+  next-no-less x [] = omega arith
+  next-no-less x (y ∷ w) = omega arith
+
+  no-less-literal : (w : List ℕ) (c : ℕ) → NonEmpty w → NoLess (leastLiteral (u v)) u (leastLiteral (u v) w) (stepLiteral v w c)
+  no-less-literal [] c ok = absurd ok
+  no-less-literal (x ∷ w) c ok =
+      pick-by (NoLess (leastLiteral (u v)) u (leastLiteral (u v) (x ∷ w))) (eqb c x) (λ t. next-no-less x w) (λ t. tt)
+
+  leasts-literal : Leasts NonEmpty (stepLiteral v) (leastLiteral (u v)) u
+  leasts-literal = record { byte = byte-literal; attains = attains-literal; no-less = no-less-literal }
+
+module _ {A : Type 0} (k : ℕ) (v : A) (u : A → ℕ) where
+  pub literal-exact : (w s : List ℕ) → Exact (leaf k (Literal v w)) u (literal k (u v) v w s) s
   literal-exact [] s =
       record {
         front = [];
@@ -45,15 +76,22 @@ module _ {A : Type 0} (k : ℕ) (v : A) where
         only = λ x y g b e l. l;
       }
   literal-exact (x ∷ w) s =
-      machine-exact k (Literal v) NonEmpty (stepLiteral v) (λ q ok. (q, v, (refl, refl))) solid-literal sound-literal s (x ∷ w) tt
+      machine-exact k (Literal v) NonEmpty (stepLiteral v) (leastLiteral (u v)) u (leasts-literal v u) (solid-literal k v) (sound-literal k v) s
+      (x ∷ w) tt
 
-abbrev pub text : {A : Type 0} (k : ℕ) → A → (x : ℕ) (w : List ℕ) → AllBytes (x ∷ w) → Parser A
-text k a x w in-bytes =
+  pub literal-least : (x : ℕ) (w : List ℕ) → Least (leaf k (Literal v (x ∷ w))) u (leastLiteral (u v) (x ∷ w)) []
+  literal-least x w =
+      least-at k (Literal v) NonEmpty (stepLiteral v) (leastLiteral (u v)) u (leasts-literal v u) (solid-literal k v) (sound-literal k v) (x ∷ w) tt
+
+-- any weight will do: there is but one value
+abbrev pub text : {A : Type 0} (k : ℕ) (u : A → ℕ) → A → (x : ℕ) (w : List ℕ) → AllBytes (x ∷ w) → Parser A u
+text k u a x w in-bytes =
     record {
       field = leaf k (Literal a (x ∷ w));
-      verdict = literal k a (x ∷ w);
-      exact = literal-exact k a (x ∷ w);
-      opens = record { tail = x ∷ w; value = a; whole = (refl, refl) };
+      verdict = literal k (u a) a (x ∷ w);
+      exact = literal-exact k a u (x ∷ w);
+      least = leastLiteral (u a) (x ∷ w);
+      opens = literal-least k a u x w;
       bytes = λ f b l. subst AllBytes (sym (l .0)) in-bytes;
     }
 
@@ -63,3 +101,12 @@ starts-text first k v x w =
       solid = λ a l. let e = l .0 in let z : _≡_ {A = ℕ} 0 1 = cc in omega arith;
       head = λ c f a l. let e = l .0 in ap first cc;
     }
+
+-- a scan asks no more bytes than the text has
+pub literal-most : (w s : List ℕ) {r : Scan} {n : ℕ} → ((k : ℕ) → Claim (Literal 0 w) (λ u. k) (told k 0 r) s) → r ≡ More n → n ≤ length w
+literal-most w s {n = n} claims e =
+    let x = (rw e at (claims 0)) .1 .0 in
+    let size = x .2 in
+    let sum = length-append s (x .0) in
+    let whole : length (s ++ x .0) ≡ length w = ap length (x .4 .0) in
+    omega arith

@@ -21,9 +21,10 @@ moved k (go p) rest = shift 1 (rest p)
 moved k (done a) rest = accepted a 1
 moved k dead rest = refused k 0
 
-abbrev pub run : {Q A : Type 0} → ℕ → (Q → ℕ → Move Q A) → List ℕ → Q → Verdict A
-run k step [] q = more
-run k step (c ∷ s) q = moved k (step q c) (run k step s)
+-- least q: how few bytes could follow the state q, with those that the fields behind ask
+abbrev pub run : {Q A : Type 0} → ℕ → (Q → ℕ → Move Q A) → (least : Q → ℕ) → List ℕ → Q → Verdict A
+run k step least [] q = more (least q)
+run k step least (c ∷ s) q = moved k (step q c) (run k step least s)
 
 -- ── the machine's own language: the bytes that take it from a state to its end ──
 abbrev pub Ends : {Q A : Type 0} → Move Q A → (Q → Type 0) → List ℕ → A → Type 0
@@ -36,5 +37,5 @@ Runs step q [] a = ⊥
 Runs step q (c ∷ f) a = Ends (step q c) (λ p. Runs step p f a) f a
 
 -- ── what a loop over the bytes needs: the verdict from the index i on, in the state q ──
-abbrev pub from : {Q A : Type 0} → ℕ → (Q → ℕ → Move Q A) → List ℕ → ℕ → Q → Verdict A
-from k step s i q = shift i (run k step (drop i s) q)
+abbrev pub from : {Q A : Type 0} → ℕ → (Q → ℕ → Move Q A) → (Q → ℕ) → List ℕ → ℕ → Q → Verdict A
+from k step least s i q = shift i (run k step least (drop i s) q)

@@ -9,11 +9,12 @@ use lib.Dec.{eqb}
 use lib.Seq.{append-snoc}
 use borrow.Author.Tests.{eqb-true}
 use Rattle.exact.specs.Claim.{AllBytes}
-use Rattle.exact.specs.Field.{Field, Begins, Opens, seq}
+use Rattle.exact.specs.Field.{Field, Begins, Opens, least-opens, seq}
 use Rattle.exact.specs.Machine.{leaf}
 use Rattle.exact.specs.Pick.{pick, both}
-use Rattle.exact.specs.Parser.{Parser, Starts, just, _then_, either}
-use Rattle.exact.specs.Unique.{fronts, unique}
+use Rattle.exact.specs.Parser.{Parser, Starts, just, either}
+use Rattle.exact.specs.Unique.{unique}
+use Rattle.exact.specs.Sequence.{fronts}
 use Rattle.exact.specs.LiteralLaws.{text}
 use Rattle.exact.specs.Literal.{Literal}
 
@@ -21,8 +22,8 @@ module _ (number : List ℕ → ℕ) where
   abbrev pub Numbered : {A : Type 0} → Field A → List ℕ → Type 0
   Numbered F before = (u : List ℕ) (k : ℕ) → Opens F u → (Begins F u → ⊥) → F .at u k → k ≡ number (before ++ u)
 
-  pub numbered-just : {A : Type 0} (a : A) (before : List ℕ) → Numbered (just a .field) before
-  numbered-just a before u k o none x = absurd x
+  pub numbered-just : {A : Type 0} (w : A → ℕ) (a : A) (before : List ℕ) → Numbered (just w a .field) before
+  numbered-just w a before u k o none x = absurd x
 
   -- a leaf, from what holds of the proper prefixes of its members
   pub numbered-leaf : {A : Type 0} (j : ℕ) (L : List ℕ → A → Type 0) (before : List ℕ)
@@ -48,12 +49,12 @@ module _ (number : List ℕ → ℕ) where
       all-places k (before ++ x ∷ []) w (both (eqb (number before) k) _ e .1) u c t (cc)
       ∙ ap number (append-snoc before x u ∙ ap (λ (z : ℕ). before ++ z ∷ u) (sym h))
 
-  pub numbered-text : {A : Type 0} (k : ℕ) (a : A) (x : ℕ) (w : List ℕ) (bytes : AllBytes (x ∷ w)) (before : List ℕ)
-      → allPlaces k before (x ∷ w) ≡ true → Numbered (text k a x w bytes .field) before
-  numbered-text k a x w bytes before e =
+  pub numbered-text : {A : Type 0} (k : ℕ) (u : A → ℕ) (a : A) (x : ℕ) (w : List ℕ) (bytes : AllBytes (x ∷ w)) (before : List ℕ)
+      → allPlaces k before (x ∷ w) ≡ true → Numbered (text k u a x w bytes .field) before
+  numbered-text k u a x w bytes before e =
       numbered-leaf k (Literal a (x ∷ w)) before (λ u c t b l. all-places k before (x ∷ w) e u c t (l .0))
 
-  module _ {A B : Type 0} (P : Parser A) (Q : A → Parser B) (before : List ℕ) where
+  module _ {A B : Type 0} {u : A → ℕ} {w : B → ℕ} (P : Parser A u) (Q : A → Parser B w) (before : List ℕ) where
     abbrev F : Field A
     F = P .field
 
@@ -91,7 +92,7 @@ module _ (number : List ℕ → ℕ) where
           whole = record { front = front; back = b .front; mid = a; split = refl; first = l; second = b .whole };
         }
 
-    pub numbered-then : Numbered F before → ((a : A) (f : List ℕ) → F .lang f a → Numbered (G a) (before ++ f)) → Numbered ((P then Q) .field) before
+    pub numbered-then : Numbered F before → ((a : A) (f : List ℕ) → F .lang f a → Numbered (G a) (before ++ f)) → Numbered (seq F G) before
     numbered-then first second u k o none (inl x) = first u k (opens-part u (x .0) o) (x .0) (x .1)
     numbered-then first second u k o none (inr x) =
         let o′ : Opens (seq F G) (x .front ++ x .back) = subst (Opens (seq F G)) (x .split) o in
@@ -100,7 +101,7 @@ module _ (number : List ℕ → ℕ) where
         (λ b. none′ (begins-rest (x .front) (x .back) (x .mid) (x .first) b)) (x .part)
         ∙ ap number (append-assoc before (x .front) (x .back) ∙ ap (λ (f : List ℕ). before ++ f) (sym (x .split)))
 
-  module _ {A : Type 0} (first : ℕ → Bool) (P Q : Parser A) (st-P : Starts first true (P .field)) (st-Q : Starts first false (Q .field))
+  module _ {A : Type 0} {w : A → ℕ} (first : ℕ → Bool) (P Q : Parser A w) (st-P : Starts first true (P .field)) (st-Q : Starts first false (Q .field))
       (before : List ℕ) (num-P : Numbered (P .field) before) (num-Q : Numbered (Q .field) before)
     where
       none-at : (F : Field A) → ((a : A) → F .lang [] a → ⊥) → Begins F [] → ⊥
@@ -114,8 +115,8 @@ module _ (number : List ℕ → ℕ) where
       never b p q = let z : _≡_ {A = ℕ} 0 1 = cc in omega arith
 
       here : (k : ℕ) → P .field .at [] k ⊎ Q .field .at [] k → k ≡ number (before ++ [])
-      here k (inl x) = num-P [] k (P .opens) (none-at (P .field) (st-P .solid)) x
-      here k (inr x) = num-Q [] k (Q .opens) (none-at (Q .field) (st-Q .solid)) x
+      here k (inl x) = num-P [] k (least-opens (P .opens)) (none-at (P .field) (st-P .solid)) x
+      here k (inr x) = num-Q [] k (least-opens (Q .opens)) (none-at (Q .field) (st-Q .solid)) x
 
       abbrev H : Field A
       H = either first P Q st-P st-Q .field

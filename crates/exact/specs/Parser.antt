@@ -1,8 +1,9 @@
--- For proofs. A parser: a field with a function whose every verdict on it is exact. Each leaf is one, and the laws make one of others.
-use mathlib.Core.Path.{_≡_, refl, sym, _∙_, subst}
+-- For proofs. A parser: a field with a function whose every verdict on it is exact under a weight of its values. Each leaf is one, and the laws make
+-- one of others.
+use mathlib.Core.Path.{_≡_, refl, sym, ap, _∙_, subst}
 use mathlib.Core.Bool.{Bool, true, false}
 use mathlib.Core.List.{List, [], _∷_, _++_}
-use mathlib.Core.Logic.{inl, ⊎-elim, _↔_}
+use mathlib.Core.Logic.{⊎-elim, _↔_}
 use Prim.Native.Nat.{ℕ, suc, _-_, _≤_, _<_}
 use native.Mathlib.Omega.{arith}
 use mir.Syntax.{w8}
@@ -11,21 +12,23 @@ use lib.ListN.{length, take, drop, getD, length-append, length-drop, take-append
 use lib.Seq.{take-all, take-at}
 use Rattle.exact.specs.Claim.{Verdict, accepted, more, refused, AllBytes}
 use Rattle.exact.specs.Ended.{Ended}
-use Rattle.exact.specs.Field.{Field, Begins, Opens, Exact, seq, after}
-use Rattle.exact.specs.Sequence.{begins-more, seq-exact, opens-first}
-use Rattle.exact.specs.MachineLaws.{runs-exact}
+use Rattle.exact.specs.Field.{Field, Begins, Opens, Least, flat, Exact, seq, after}
+use Rattle.exact.specs.Sequence.{begins-more, seq-exact, least-start}
+use Rattle.exact.specs.MachineLaws.{Leasts, runs-exact, runs-least}
 use Rattle.exact.specs.Machine.{leaf, Move, go, Runs, run}
-use Rattle.exact.specs.Choice.{pure, pure-exact, alt, choose, alt-exact}
+use Rattle.exact.specs.Choice.{pure, pure-exact, alt, choose, alt-least, alt-exact}
+use Rattle.exact.specs.Pick.{smaller}
 
 -- every whole field is of bytes
 abbrev pub InBytes : {A : Type 0} → Field A → Type 0
 InBytes {A} F = (f : List ℕ) (a : A) → F .lang f a → AllBytes f
 
-pub record Parser (A : Type 0) : Type 1 where
+pub record Parser (A : Type 0) (w : A → ℕ) : Type 1 where
   pub field : Field A
   pub verdict : List ℕ → Verdict A
-  pub exact : (s : List ℕ) → Exact field (verdict s) s
-  pub opens : Opens field []
+  pub exact : (s : List ℕ) → Exact field w (verdict s) s
+  pub least : ℕ
+  pub opens : Least field w least []
   pub bytes : InBytes field
 
 pub bytes-append : (s t : List ℕ) → AllBytes s → AllBytes t → AllBytes (s ++ t)
@@ -58,29 +61,45 @@ pub bytes-drop : (n : ℕ) (s : List ℕ) → AllBytes s → AllBytes (drop n s)
 bytes-drop n s b = bytes-back (take n s) (drop n s) (subst AllBytes (sym (take-append-drop n s)) b)
 
 -- ── the parsers that the laws make ──
-abbrev pub just : {A : Type 0} → A → Parser A
-just a =
+abbrev pub just : {A : Type 0} (w : A → ℕ) → A → Parser A w
+just w a =
     record {
       field = pure a;
       verdict = λ s. accepted a 0;
-      exact = λ s. pure-exact a s;
-      opens = record { tail = []; value = a; whole = (refl, refl) };
+      exact = λ s. pure-exact w a s;
+      least = w a;
+      opens = record {
+        tail = [];
+        value = a;
+        whole = (refl, refl);
+        size = omega arith;
+        below = λ t b l. let same : w b ≡ w a = ap w (l .1) in omega arith;
+      };
       bytes = λ f b l. subst AllBytes (sym (l .0)) tt;
     }
 
 pub bytes-seq : {A B : Type 0} (F : Field A) (G : A → Field B) → InBytes F → ((a : A) → InBytes (G a)) → InBytes (seq F G)
 bytes-seq F G x y f b l = subst AllBytes (sym (l .split)) (bytes-append (l .front) (l .back) (x _ _ (l .first)) (y _ _ _ (l .second)))
 
+-- the weight of P's values is the least of what they choose: `(P then Q) fit`
+abbrev pub Fit : {A B : Type 0} {u : A → ℕ} {w : B → ℕ} → Parser A u → (A → Parser B w) → Type 0
+Fit {A} {u = u} P Q = (a : A) (f : List ℕ) → P .field .lang f a → Q a .least ≡ u a
+
+pub fit-least : {A B : Type 0} {u : A → ℕ} {w : B → ℕ} (P : Parser A u) (Q : A → Parser B w) → Fit P Q
+    → (a : A) (f : List ℕ) → P .field .lang f a → Least (Q a .field) w (u a) []
+fit-least {w = w} P Q fit a f l = subst (λ (n : ℕ). Least (Q a .field) w n []) (fit a f l) (Q a .opens)
+
 infixl 40 _then_
-abbrev pub _then_ : {A B : Type 0} → Parser A → (A → Parser B) → Parser B
-P then Q =
+abbrev pub _then_ : {A B : Type 0} {u : A → ℕ} {w : B → ℕ} (P : Parser A u) (Q : A → Parser B w) → Fit P Q → Parser B w
+_then_ {u = u} {w = w} P Q fit =
     record {
       field = seq (P .field) (λ a. Q a .field);
       verdict = λ s. after (P .verdict s) (λ a r. Q a .verdict r) s;
       exact = λ s.
-          seq-exact (P .field) (λ a. Q a .field) (λ a r. Q a .verdict r) (λ a f l. Q a .opens) (λ a f r l. Q a .exact r)
+          seq-exact (P .field) (λ a. Q a .field) u w (λ a r. Q a .verdict r) (fit-least P Q fit) (λ a f r l. Q a .exact r)
           (P .verdict s) s (P .exact s);
-      opens = opens-first (P .field) (λ a. Q a .field) (λ a f l. Q a .opens) [] (P .opens);
+      least = P .least;
+      opens = least-start (P .field) (λ a. Q a .field) u w (fit-least P Q fit) (P .least) (P .opens);
       bytes = bytes-seq (P .field) (λ a. Q a .field) (P .bytes) (λ a. Q a .bytes);
     }
 
@@ -89,29 +108,31 @@ pub record Starts {A : Type 0} (first : ℕ → Bool) (b : Bool) (F : Field A) :
   pub solid : (a : A) → F .lang [] a → ⊥
   pub head : (c : ℕ) (f : List ℕ) (a : A) → F .lang (c ∷ f) a → first c ≡ b
 
-abbrev pub either : {A : Type 0} (first : ℕ → Bool) (P Q : Parser A) → Starts first true (P .field) → Starts first false (Q .field) → Parser A
-either first P Q st-P st-Q =
+abbrev pub either : {A : Type 0} {w : A → ℕ} (first : ℕ → Bool) (P Q : Parser A w) → Starts first true (P .field) → Starts first false (Q .field)
+    → Parser A w
+either {w = w} first P Q st-P st-Q =
     record {
       field = alt first (P .field) (Q .field);
-      verdict = choose first (P .verdict) (Q .verdict);
+      verdict = choose first (P .least) (Q .least) (P .verdict) (Q .verdict);
       exact =
-          alt-exact first (P .field) (Q .field) (P .verdict) (Q .verdict) (P .exact) (Q .exact) (st-P .solid) (st-Q .solid) (st-P .head)
-          (st-Q .head) (P .opens);
-      opens = record { tail = P .opens .tail; value = P .opens .value; whole = inl (P .opens .whole) };
+          alt-exact first (P .field) (Q .field) w (P .least) (Q .least) (P .verdict) (Q .verdict) (P .exact) (Q .exact) (st-P .solid)
+          (st-Q .solid) (st-P .head) (st-Q .head) (P .opens) (Q .opens);
+      least = smaller (P .least) (Q .least);
+      opens = alt-least first (P .field) (Q .field) w (P .least) (Q .least) (P .opens) (Q .opens);
       bytes = λ f a. ⊎-elim (P .bytes f a) (Q .bytes f a);
     }
 
 -- a machine, from a good state q
-abbrev pub machine : {Q A : Type 0} (k : ℕ) (Ok : Q → Type 0) (step : Q → ℕ → Move Q A)
-    → ((q : Q) → Ok q → (f : List ℕ) × (a : A) × Runs step q f a)
+abbrev pub machine : {Q A : Type 0} (k : ℕ) (Ok : Q → Type 0) (step : Q → ℕ → Move Q A) (least : Q → ℕ) (w : A → ℕ) → Leasts Ok step least w
     → ((q : Q) (c : ℕ) (p : Q) → Ok q → step q c ≡ go p → Ok p)
-    → (q : Q) → Ok q → InBytes (leaf k (Runs step q)) → Parser A
-machine k Ok step opens keeps q ok in-bytes =
+    → (q : Q) → Ok q → InBytes (leaf k (Runs step q)) → Parser A w
+machine k Ok step least w leasts keeps q ok in-bytes =
     record {
       field = leaf k (Runs step q);
-      verdict = λ s. run k step s q;
-      exact = λ s. runs-exact k Ok step opens keeps s q ok;
-      opens = let o = opens q ok in record { tail = o .0; value = o .1; whole = o .2 };
+      verdict = λ s. run k step least s q;
+      exact = λ s. runs-exact k Ok step least w leasts keeps s q ok;
+      least = least q;
+      opens = runs-least k Ok step least w leasts keeps q ok;
       bytes = in-bytes;
     }
 
@@ -122,12 +143,22 @@ module _ {A : Type 0} (F G : Field A) (same : (f : List ℕ) (a : A) → F .lang
     pub opens-same : (s : List ℕ) → Opens F s → Opens G s
     opens-same s o = record { tail = o .tail; value = o .value; whole = same _ _ .0 (o .whole) }
 
+    pub least-same : (w : A → ℕ) (n : ℕ) (s : List ℕ) → Least F w n s → Least G w n s
+    least-same w n s o =
+        record {
+          tail = o .tail;
+          value = o .value;
+          whole = same _ _ .0 (o .whole);
+          size = o .size;
+          below = λ t a l. o .below t a (same _ _ .1 l);
+        }
+
     begins-back : (s : List ℕ) → Begins G s → Begins F s
     begins-back s b =
         record { front = b .front; rest = b .rest; value = b .value; split = b .split; whole = same _ _ .1 (b .whole) }
 
-    pub same-exact : (v : Verdict A) (s : List ℕ) → Exact F v s → Exact G v s
-    same-exact (accepted a n) s x =
+    pub same-exact : (w : A → ℕ) (v : Verdict A) (s : List ℕ) → Exact F w v s → Exact G w v s
+    same-exact w (accepted a n) s x =
         record {
           front = x .front;
           rest = x .rest;
@@ -136,8 +167,8 @@ module _ {A : Type 0} (F G : Field A) (same : (f : List ℕ) (a : A) → F .lang
           whole = same _ _ .0 (x .whole);
           only = λ u y g b e l. x .only u y g b e (same _ _ .1 l);
         }
-    same-exact more s x = record { none = λ b. x .none (begins-back s b); opens = opens-same s (x .opens) }
-    same-exact (refused k p) s x =
+    same-exact w (more n) s x = record { none = λ b. x .none (begins-back s b); least = least-same w n s (x .least) }
+    same-exact w (refused k p) s x =
         record {
           front = x .front;
           byte = x .byte;
@@ -149,14 +180,15 @@ module _ {A : Type 0} (F G : Field A) (same : (f : List ℕ) (a : A) → F .lang
           part = parts _ _ (x .opens) (λ b. x .dead (begins-more F _ _ b)) (x .part);
         }
 
-abbrev pub recast : {A : Type 0} (P : Parser A) (G : Field A) → ((f : List ℕ) (a : A) → P .field .lang f a ↔ G .lang f a)
-    → ((u : List ℕ) (k : ℕ) → Opens (P .field) u → P .field .at u k → G .at u k) → Parser A
-recast P G same parts =
+abbrev pub recast : {A : Type 0} {w : A → ℕ} (P : Parser A w) (G : Field A) → ((f : List ℕ) (a : A) → P .field .lang f a ↔ G .lang f a)
+    → ((u : List ℕ) (k : ℕ) → Opens (P .field) u → P .field .at u k → G .at u k) → Parser A w
+recast {w = w} P G same parts =
     record {
       field = G;
       verdict = P .verdict;
-      exact = λ s. same-exact (P .field) G same (λ u k o n x. parts u k o x) (P .verdict s) s (P .exact s);
-      opens = opens-same (P .field) G same (λ u k o n x. parts u k o x) [] (P .opens);
+      exact = λ s. same-exact (P .field) G same (λ u k o n x. parts u k o x) w (P .verdict s) s (P .exact s);
+      least = P .least;
+      opens = least-same (P .field) G same (λ u k o n x. parts u k o x) w (P .least) [] (P .opens);
       bytes = λ f a l. P .bytes f a (same f a .1 l);
     }
 
@@ -171,7 +203,7 @@ spelledField F = record { lang = Spelled (F .lang); at = F .at }
 
 abbrev pub spell : {A : Type 0} → Verdict A → List ℕ → Verdict (List ℕ)
 spell (accepted a n) s = accepted (take n s) n
-spell more s = more
+spell (more n) s = more n
 spell (refused k p) s = refused k p
 
 module _ {A : Type 0} (F : Field A) where
@@ -183,8 +215,18 @@ module _ {A : Type 0} (F : Field A) where
   opens-spelled s o =
       record { tail = o .tail; value = s ++ o .tail; whole = record { value = o .value; whole = o .whole; text = refl } }
 
-  pub spelled-exact : (v : Verdict A) (s : List ℕ) → Exact F v s → Exact (spelledField F) (spell v s) s
-  spelled-exact (accepted a n) s x =
+  pub least-spelled : (m n : ℕ) (s : List ℕ) → Least F (flat m) n s → Least (spelledField F) (flat m) n s
+  least-spelled m n s o =
+      record {
+        tail = o .tail;
+        value = s ++ o .tail;
+        whole = record { value = o .value; whole = o .whole; text = refl };
+        size = o .size;
+        below = λ t a l. o .below t (l .value) (l .whole);
+      }
+
+  pub spelled-exact : (m : ℕ) (v : Verdict A) (s : List ℕ) → Exact F (flat m) v s → Exact (spelledField F) (flat m) (spell v s) s
+  spelled-exact m (accepted a n) s x =
       let here : take n s ≡ x .front = rw (x .split) (take-at (x .front) (x .rest) n (x .size)) in
       record {
         front = x .front;
@@ -196,8 +238,8 @@ module _ {A : Type 0} (F : Field A) where
             let q = x .only u y g (l .value) e (l .whole) in
             (q .0, l .text ∙ q .0 ∙ sym here);
       }
-  spelled-exact more s x = record { none = λ b. x .none (begins-spelled s b); opens = opens-spelled s (x .opens) }
-  spelled-exact (refused k p) s x =
+  spelled-exact m (more n) s x = record { none = λ b. x .none (begins-spelled s b); least = least-spelled m n s (x .least) }
+  spelled-exact m (refused k p) s x =
       record {
         front = x .front;
         byte = x .byte;
@@ -209,13 +251,14 @@ module _ {A : Type 0} (F : Field A) where
         part = x .part;
       }
 
-abbrev pub spelled : {A : Type 0} → Parser A → Parser (List ℕ)
-spelled P =
+abbrev pub spelled : {A : Type 0} {m : ℕ} → Parser A (flat m) → Parser (List ℕ) (flat m)
+spelled {m = m} P =
     record {
       field = spelledField (P .field);
       verdict = λ s. spell (P .verdict s) s;
-      exact = λ s. spelled-exact (P .field) (P .verdict s) s (P .exact s);
-      opens = opens-spelled (P .field) [] (P .opens);
+      exact = λ s. spelled-exact (P .field) m (P .verdict s) s (P .exact s);
+      least = P .least;
+      opens = least-spelled (P .field) m (P .least) [] (P .opens);
       bytes = λ f t l. P .bytes f (l .value) (l .whole);
     }
 
@@ -223,17 +266,17 @@ spelled P =
 -- how many bytes a verdict speaks of
 abbrev pub reach : {A : Type 0} → Verdict A → ℕ
 reach (accepted a n) = n
-reach more = 0
+reach (more n) = 0
 reach (refused k p) = p
 
-reach-exact : {A : Type 0} (F : Field A) (v : Verdict A) (s : List ℕ) → Exact F v s → reach v ≤ length s
-reach-exact F (accepted a n) s x = let e = x .size in rw (x .split) (simp length-append (omega arith))
-reach-exact F more s x = omega arith
-reach-exact F (refused k p) s x = let e = x .size in rw (x .split) (simp length-append (omega arith))
+reach-exact : {A : Type 0} (F : Field A) (w : A → ℕ) (v : Verdict A) (s : List ℕ) → Exact F w v s → reach v ≤ length s
+reach-exact F w (accepted a n) s x = let e = x .size in rw (x .split) (simp length-append (omega arith))
+reach-exact F w (more n) s x = omega arith
+reach-exact F w (refused k p) s x = let e = x .size in rw (x .split) (simp length-append (omega arith))
 
-module _ {A : Type 0} (P : Parser A) (s : List ℕ) where
+module _ {A : Type 0} {w : A → ℕ} (P : Parser A w) (s : List ℕ) where
   pub reach-le : (v : Verdict A) → v ≡ P .verdict s → reach v ≤ length s
-  reach-le v e = rw e (reach-exact (P .field) (P .verdict s) s (P .exact s))
+  reach-le v e = rw e (reach-exact (P .field) w (P .verdict s) s (P .exact s))
 
 -- what a slice `&s[n..]` holds
 pub tail-all : (n : ℕ) (s : List ℕ) → take (length s - n) (drop n s) ≡ drop n s

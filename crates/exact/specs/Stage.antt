@@ -9,9 +9,9 @@ use lib.Seq.{drop-drop}
 use Rattle.exact.specs.Claim.{Verdict, accepted, refused}
 use Rattle.exact.specs.Field.{Exact, after, shift}
 use Rattle.exact.specs.MachineLaws.{shift-shift}
-use Rattle.exact.specs.Parser.{Parser, _then_, reach-le}
+use Rattle.exact.specs.Parser.{Parser, reach-le}
 
-module _ {A : Type 0} (P : Parser A) (s : List ℕ) (at : ℕ) (inside : at ≤ length s) where
+module _ {A : Type 0} {w : A → ℕ} (P : Parser A w) (s : List ℕ) (at : ℕ) (inside : at ≤ length s) where
   -- an accepted field lies in the bytes
   pub stage-inside : (a : A) (n : ℕ) → accepted a n ≡ P .verdict (drop at s) → at + n ≤ length s
   stage-inside a n e =
@@ -22,8 +22,8 @@ module _ {A : Type 0} (P : Parser A) (s : List ℕ) (at : ℕ) (inside : at ≤ 
   -- and is a member of its language
   pub stage-member : (a : A) (n : ℕ) → accepted a n ≡ P .verdict (drop at s) → (f : List ℕ) × P .field .lang f a
   stage-member a n e =
-      let x : Exact (P .field) (accepted a n) (drop at s) =
-      subst (λ (v : Verdict A). Exact (P .field) v (drop at s)) (sym e) (P .exact (drop at s))
+      let x : Exact (P .field) w (accepted a n) (drop at s) =
+      subst (λ (v : Verdict A). Exact (P .field) w v (drop at s)) (sym e) (P .exact (drop at s))
       in
       (x .front, x .whole)
 
@@ -34,14 +34,14 @@ module _ {A : Type 0} (P : Parser A) (s : List ℕ) (at : ℕ) (inside : at ≤ 
       let d = length-drop at s in
       omega arith
 
-module _ {A B : Type 0} (P : Parser A) (Q : A → Parser B) (s : List ℕ) (at : ℕ) where
-  -- where the field's verdict is v
+module _ {A B : Type 0} {u : A → ℕ} {w : B → ℕ} (P : Parser A u) (Q : A → Parser B w) (s : List ℕ) (at : ℕ) where
+  -- where the field's verdict is v; of the verdict on the field it is that of `(P then Q) fit`, whatever the fit
   abbrev pub on : Verdict A → Verdict B
   on v = shift at (after v (λ a r. Q a .verdict r) (drop at s))
 
-  pub stage-accepted : (a : A) (n : ℕ) (w : Verdict B) → accepted a n ≡ P .verdict (drop at s)
-      → w ≡ shift (at + n) (Q a .verdict (drop (at + n) s)) → w ≡ shift at ((P then Q) .verdict (drop at s))
-  stage-accepted a n w e h =
+  pub stage-accepted : (a : A) (n : ℕ) (v : Verdict B) → accepted a n ≡ P .verdict (drop at s)
+      → v ≡ shift (at + n) (Q a .verdict (drop (at + n) s)) → v ≡ on (P .verdict (drop at s))
+  stage-accepted a n v e h =
       h
       ∙ ap (λ (t : List ℕ). shift (at + n) (Q a .verdict t)) (sym (drop-drop n at s))
       ∙ sym (shift-shift at n (Q a .verdict (drop n (drop at s))))

@@ -1,21 +1,12 @@
 -- For proofs. A whole field begins no other, where each text has an exact verdict.
-use mathlib.Core.Path.{_≡_, refl, sym, ap, _∙_, subst}
+use mathlib.Core.Path.{_≡_, sym, ap, _∙_, subst}
 use mathlib.Core.List.{List, [], _∷_, _++_, append-assoc, append-nil}
-use mathlib.Core.Logic.{_⊎_, inl, inr, ⊎-elim}
 use Prim.Native.Nat.{ℕ}
 use lib.Seq.{append-snoc}
 use Rattle.exact.specs.Claim.{Verdict, accepted, more, refused}
 use Rattle.exact.specs.Field.{Field, Begins, Alive, Opens, Only, Refuses, Exact}
 use Rattle.exact.specs.Sequence.{begins-more}
 use Rattle.exact.specs.Parser.{Parser}
-
--- two fronts of one text: one continues the other
-pub fronts : (s t f r : List ℕ) → s ++ t ≡ f ++ r → ((m : List ℕ) × (f ≡ s ++ m)) ⊎ ((m : List ℕ) × (s ≡ f ++ m))
-fronts [] t f r e = inl (f, refl)
-fronts (x ∷ s) t [] r e = inr (x ∷ s, refl)
-fronts (x ∷ s) t (y ∷ f) r e =
-    let h : x ≡ y = cc in
-    ⊎-elim (λ q. inl (q .0, cc)) (λ q. inr (q .0, cc)) (fronts s t f r cc)
 
 module _ {A : Type 0} (F : Field A) where
   abbrev pub begins-whole : (s : List ℕ) (a : A) → F .lang s a → Begins F s
@@ -58,12 +49,12 @@ module _ {A : Type 0} (F : Field A) where
   only-same : (g h : List ℕ) (c d : A) → g ≡ h → c ≡ d → Only F g c → Only F h d
   only-same g h c d e e′ o = subst (λ (z : A). Only F h z) e′ (subst (λ (y : List ℕ). Only F y c) e o)
 
-  pub unique-of : (v : Verdict A) (f : List ℕ) (a : A) → Exact F v f → F .lang f a → Only F f a
-  unique-of (accepted b n) f a x l =
+  pub unique-of : (w : A → ℕ) (v : Verdict A) (f : List ℕ) (a : A) → Exact F w v f → F .lang f a → Only F f a
+  unique-of w (accepted b n) f a x l =
       let q = x .only (x .rest) [] f a (sym (x .split) ∙ sym (append-nil f)) l in
       only-same (x .front) f b a (sym (q .0)) (sym (q .1)) (x .only)
-  unique-of more f a x l = absurd (x .none (begins-whole f a l))
-  unique-of (refused k p) f a x l = absurd (refused-dead x (begins-alive f (begins-whole f a l)))
+  unique-of w (more n) f a x l = absurd (x .none (begins-whole f a l))
+  unique-of w (refused k p) f a x l = absurd (refused-dead x (begins-alive f (begins-whole f a l)))
 
-pub unique : {A : Type 0} (P : Parser A) (f : List ℕ) (a : A) → P .field .lang f a → Only (P .field) f a
-unique P f a = unique-of (P .field) (P .verdict f) f a (P .exact f)
+pub unique : {A : Type 0} {w : A → ℕ} (P : Parser A w) (f : List ℕ) (a : A) → P .field .lang f a → Only (P .field) f a
+unique {w = w} P f a = unique-of (P .field) w (P .verdict f) f a (P .exact f)

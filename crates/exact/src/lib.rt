@@ -12,7 +12,8 @@ ghost use Rattle.exact.specs.Literal.{Common, literal as literalOf};
 pub enum Scan {
     // The field's value, and how many bytes it has with its end.
     Accepted(u32, usize),
-    More,
+    // How few further bytes could finish the field.
+    More(usize),
     // The place of the byte that rules the field out.
     Refused(usize),
 }
@@ -34,15 +35,15 @@ fn common(s: &[u8], w: &[u8]) -> usize
 
 // The bytes of w, one after the other; where w is empty that is no byte, accepted at once.
 pub fn literal(s: &[u8], w: &[u8]) -> Scan
-    ensures verdict { λ r. ⌜ ((k : ℕ) → told k r ≡ literalOf k 0 (now (w .entry)) (now (s .entry))) ⌝ }
-    ensures claim { λ r. ⌜ ((k : ℕ) → Claim (Valueless (λ f. f ≡ now (w .entry))) (λ u. k) (told k r) (now (s .entry))) ⌝ }
+    ensures verdict { λ r. ⌜ ((k m : ℕ) → told k m r ≡ literalOf k m 0 (now (w .entry)) (now (s .entry))) ⌝ }
+    ensures claim { λ r. ⌜ ((k : ℕ) → Claim (Valueless (λ f. f ≡ now (w .entry))) (λ u. k) (told k 0 r) (now (s .entry))) ⌝ }
 {
     let n = common(s, w);
     if n == w.len() {
         return Scan::Accepted(0, n);
     }
     if n == s.len() {
-        return Scan::More;
+        return Scan::More(w.len() - n);
     }
     Scan::Refused(n)
 }

@@ -8,11 +8,12 @@ use Prim.Native.Nat.{ℕ, _+_, _-_, _≤_, _<_}
 use native.Mathlib.Omega.{arith}
 use lib.Dec.{eqb, leb}
 use lib.ListN.{length, length-append}
-use borrow.Author.Tests.{eqb-true, eqb-false, eq-eqb, ne-eqb, leb-true, le-leb}
+use borrow.Author.Tests.{eqb-true, eqb-false, leb-true}
 use Rattle.exact.specs.Claim.{AllBytes}
 use Rattle.exact.specs.Network.{network}
 use Rattle.exact.specs.Pick.{pick}
 use Rattle.exact.specs.Below.{each-below}
+use Rattle.exact.specs.Field.{flat}
 use Rattle.exact.specs.Parser.{just}
 use Rattle.tlv.specs.Tlv.{WellFormed}
 use Rattle.tlv.specs.Room.{filled-fillable}
@@ -23,7 +24,8 @@ use Rattle.record.specs.Kinds.{family, portLength, blockLength}
 use Rattle.record.specs.Records.{recordOf, bare, PortFits}
 use Rattle.header.specs.Block.{signature, LOCAL, PROXY, LocalBlock, HasAddresses, portBytes, Addresses, Block}
 use Rattle.header.specs.Header.{Header}
-use Rattle.fields.specs.BlockFields.{blocked, Command, local, proxy, commandOf, skipped, fits, port, tlvs, area, addresses, addressed, familyRest, commandRest, block}
+use Rattle.fields.specs.Lengths.{fits, either-fits}
+use Rattle.fields.specs.BlockFields.{blocked, Command, local, proxy, commandOf, skipped, port, tlvs, area, addresses, addressed, familyRest, commandRest, block}
 
 -- ── the members ──
 blocked-of : (h : Header) (r : Record) (a : List ℕ) → h .«record» ≡ r → h .area ≡ a → h .version ≡ 2 → h ≡ blocked r a
@@ -72,29 +74,19 @@ from-skipped r f h w =
       };
     }
 
-to-port : (k : Kind) (f : List ℕ) (p : ℕ) → port k .field .lang f p → (f ≡ portBytes k p) × PortFits k p
-to-port Local f p l = l
-to-port Unspecified f p l = l
-to-port (Ip4 t) f p l = (l .split, l .small)
-to-port (Ip6 t) f p l = (l .split, l .small)
-to-port (Unix t) f p l = l
+to-port : (m : ℕ) (k : Kind) (f : List ℕ) (p : ℕ) → port m k .field .lang f p → (f ≡ portBytes k p) × PortFits k p
+to-port m Local f p l = l
+to-port m Unspecified f p l = l
+to-port m (Ip4 t) f p l = (l .split, l .small)
+to-port m (Ip6 t) f p l = (l .split, l .small)
+to-port m (Unix t) f p l = l
 
-from-port : (k : Kind) (p : ℕ) → PortFits k p → port k .field .lang (portBytes k p) p
-from-port Local p h = (refl, h)
-from-port Unspecified p h = (refl, h)
-from-port (Ip4 t) p h = record { split = refl; small = h; fits = refl }
-from-port (Ip6 t) p h = record { split = refl; small = h; fits = refl }
-from-port (Unix t) p h = (refl, h)
-
-fits-either : (a n : ℕ) (b : Bool) → eqb n a ≡ b → pick b true (leb (a + 3) n) ≡ true → (n ≡ a) ⊎ (a + 3 ≤ n)
-fits-either a n true e f = inl (eqb-true n a e)
-fits-either a n false e f = inr (leb-true (a + 3) n f)
-
-either-fits : (a n : ℕ) → (n ≡ a) ⊎ (a + 3 ≤ n) → fits a n ≡ true
-either-fits a n (inl e) = simp (eq-eqb n a e)
-either-fits a n (inr h) =
-    let other : n ≡ a → ⊥ = omega arith in
-    simp (ne-eqb n a other, le-leb (a + 3) n h)
+from-port : (m : ℕ) (k : Kind) (p : ℕ) → PortFits k p → port m k .field .lang (portBytes k p) p
+from-port m Local p h = (refl, h)
+from-port m Unspecified p h = (refl, h)
+from-port m (Ip4 t) p h = record { split = refl; small = h; fits = refl }
+from-port m (Ip6 t) p h = record { split = refl; small = h; fits = refl }
+from-port m (Unix t) p h = (refl, h)
 
 -- the TLVs behind the address block
 abbrev AreaAt : ℕ → ℕ → List ℕ → List ℕ → Type 0
@@ -107,7 +99,7 @@ to-area : (a n : ℕ) (f t : List ℕ) → fits a n ≡ true → area a n .field
 to-area a n f t good l = by (eqb n a) refl good l
   where
     by : (b : Bool) → eqb n a ≡ b → pick b true (leb (a + 3) n) ≡ true
-        → (pick b (just []) (tlvs (n - (a + 3)))) .field .lang f t → AreaAt a n f t
+        → (pick b (just (flat 0) []) (tlvs (n - (a + 3)))) .field .lang f t → AreaAt a n f t
     by true e g m =
         let same : n ≡ a = eqb-true n a e in
         (rw (m .0) (omega arith), subst WellFormed (sym (m .0)) no-tlvs, m .1 ∙ sym (m .0))
@@ -123,7 +115,7 @@ from-area a n f size filled = by (eqb n a) refl
     empty [] e = refl
     empty (c ∷ g) e = absurd (omega arith)
 
-    by : (b : Bool) → eqb n a ≡ b → (pick b (just []) (tlvs (n - (a + 3)))) .field .lang f f
+    by : (b : Bool) → eqb n a ≡ b → (pick b (just (flat 0) []) (tlvs (n - (a + 3)))) .field .lang f f
     by true e = let same : n ≡ a = eqb-true n a e in let z = empty f (omega arith) in (z, z)
     by false e =
         let other : n ≡ a → ⊥ = eqb-false n a e in
@@ -174,8 +166,8 @@ to-addressed k f h l =
     let l₅ = l₄ .second in
     let c₁ = l₁ .first .whole in
     let c₂ = l₂ .first .whole in
-    let p = to-port k (l₃ .front) (l₃ .mid) (l₃ .first) in
-    let q = to-port k (l₄ .front) (l₄ .mid) (l₄ .first) in
+    let p = to-port _ k (l₃ .front) (l₃ .mid) (l₃ .first) in
+    let q = to-port _ k (l₄ .front) (l₄ .mid) (l₄ .first) in
     let a = to-area (blockLength k) (l .mid) (l₅ .front) (l₅ .mid) (l .first .fits) (l₅ .first) in
     let block = l₁ .front ++ l₂ .front ++ l₃ .front ++ l₄ .front in
     let here : Addresses k block (recordOf k (l₁ .mid) (l₂ .mid) (l₃ .mid) (l₄ .mid)) =
@@ -253,13 +245,13 @@ from-addressed k f h w =
             back = portBytes k (b .q) ++ w .area;
             mid = b .p;
             split = refl;
-            first = from-port k (b .p) (b .p-fits);
+            first = from-port _ k (b .p) (b .p-fits);
             second = record {
               front = portBytes k (b .q);
               back = w .area;
               mid = b .q;
               split = refl;
-              first = from-port k (b .q) (b .q-fits);
+              first = from-port _ k (b .q) (b .q-fits);
               second = record {
                 front = w .area;
                 back = [];

@@ -29,7 +29,7 @@ use Rattle.record.specs.declared.Kind.the-variants.{Local, Unspecified, Ip4, Ip
 use Rattle.record.specs.declared.Record.{Record}
 use Rattle.record.specs.Kinds.{family, blockLength}
 use Rattle.record.specs.Records.{recordOf, bare, Clean}
-use Rattle.header.specs.Line.{TcpLine, Ip6Address, UnknownLine}
+use Rattle.header.specs.Line.{TcpLine, Ip6Address, UnknownLine, Line}
 use Rattle.header.specs.Block.{signature, LOCAL, PROXY, Framed, HasAddresses, AddressBlock, Block}
 use Rattle.header.specs.Header.{Header, Whole}
 use Rattle.header.specs.Demand.{Judges}
@@ -60,14 +60,14 @@ module _ (s body : List ℕ) (split : s ≡ ascii "PROXY UNKNOWN " ++ body) (byt
   same-last = rw split
 
   -- "So 106 bytes without an end are still "more" if the last is CR"
-  pub unknown-more : getD s 105 0 ≡ CR → Judges more s
+  pub unknown-more : getD s 105 0 ≡ CR → Judges (more 1) s
   unknown-more e =
-      by-verdict more s (ap verdict split ∙ unknown-verdict body more (rest-more body bytes no-end body-size (sym same-last ∙ e)))
+      by-verdict (more 1) s (ap verdict split ∙ unknown-verdict body (more 1) (rest-more body bytes no-end body-size (sym same-last ∙ e)))
 
   -- "and otherwise refused with 5 at place 105", whatever follows
   pub unknown-refused : (getD s 105 0 ≡ CR → ⊥) → (t : List ℕ) → Judges (refused 5 105) (s ++ t)
   unknown-refused other t =
-      judges-stays (refused 5 105) s t (λ e. let z : _≡_ {A = ℕ} 0 1 = cc in omega arith)
+      judges-stays (refused 5 105) s t (λ n e. let z : _≡_ {A = ℕ} 0 1 = cc in omega arith)
       (by-verdict (refused 5 105) s
       (ap verdict split ∙ unknown-verdict body (refused 5 91) (rest-refused body bytes no-end body-size (λ e. other (same-last ∙ e)))))
 
@@ -136,7 +136,7 @@ unspecified-read b block t byte table small bytes =
       refl,
     )
     in
-    judges-stays (accepted unspecifiedHeader (16 + length block)) f t (λ e. let z : _≡_ {A = ℕ} 0 1 = cc in omega arith)
+    judges-stays (accepted unspecifiedHeader (16 + length block)) f t (λ n e. let z : _≡_ {A = ℕ} 0 1 = cc in omega arith)
     (omega arith, rw (sym size, take-length f) whole)
 
 -- "Refusal 7 is for the rest only": it is given for them
@@ -196,14 +196,17 @@ eight-at-fifteen s p bytes x =
     omega arith
 
 -- ── both versions ──
+pub longest-line : (f : List ℕ) (r : Record) → Line f r → length f ≤ 107
+longest-line f r (inl l) = longest-unknown f r l
+longest-line f r (inr (inl l)) = let b = longest-tcp4 f r l in omega arith
+longest-line f r (inr (inr l)) = let b = longest-tcp6 f r l in omega arith
+
 -- "The header length is at least 15 and at most 65,551"
 pub header-length : (f : List ℕ) (h : Header) → Whole f h → (15 ≤ length f) × (length f ≤ 65551)
 header-length f h w = (header-least f h w, most w)
   where
     most : Whole f h → length f ≤ 65551
-    most (inl (inl l, v, a)) = let b = longest-unknown f (h .«record») l in omega arith
-    most (inl (inr (inl l), v, a)) = let b = longest-tcp4 f (h .«record») l in omega arith
-    most (inl (inr (inr l), v, a)) = let b = longest-tcp6 f (h .«record») l in omega arith
+    most (inl w) = let b = longest-line f (h .«record») (w .0) in omega arith
     most (inr w) = block-bounds f (h .«record») (h .area) (w .0) .1
 
 -- both are reached: by the shortest UNKNOWN line, and by LOCAL with 65,535 zero bytes

@@ -34,7 +34,8 @@ use Rattle.header.specs.Header.{Header, Whole, placeNumber, blockNumber, lineNu
 use Rattle.header.specs.Demand.{Judges}
 use Rattle.fields.specs.LineFields.{lined, restField}
 use Rattle.fields.specs.BlockMembers.{addresses-length}
-use Rattle.fields.specs.BlockFields.{blocked, fits, skipped, addressed, familyRest, block-small}
+use Rattle.fields.specs.Lengths.{fits}
+use Rattle.fields.specs.BlockFields.{blocked, skipped, addressed, familyRest, block-small}
 use Rattle.fields.specs.Exactness.{verdict, judges, bytes-enough}
 
 pub by-verdict : (v : Verdict Header) (s : List ℕ) → verdict s ≡ v → Judges v s
@@ -131,17 +132,17 @@ module _ (body : List ℕ) (bytes : AllBytes body) (none : NoEnd body) (size : l
   front-bytes : AllBytes front
   front-bytes = bytes-front front (last ∷ []) (subst AllBytes body-split bytes)
 
-  pub rest-more : last ≡ 13 → restField .verdict body ≡ more
+  pub rest-more : last ≡ 13 → restField .verdict body ≡ more 1
   rest-more e =
       let here : body ≡ front ++ 13 ∷ [] = body-split ∙ ap (λ (c : ℕ). front ++ c ∷ []) e in
       let h = front-size in
-      ap (restField .verdict) here ∙ long-more 5 93 front front-bytes (subst NoEnd here none) (omega arith)
+      ap (restField .verdict) here ∙ long-more 5 0 93 front front-bytes (subst NoEnd here none) (omega arith)
 
   pub rest-refused : (last ≡ 13 → ⊥) → restField .verdict body ≡ refused 5 91
   rest-refused other =
       let h = front-size in
       ap (restField .verdict) body-split
-      ∙ long-refused 5 93 front front-bytes last [] (subst NoEnd body-split none) (omega arith) other
+      ∙ long-refused 5 0 93 front front-bytes last [] (subst NoEnd body-split none) (omega arith) other
       ∙ ap (refused 5) front-size
 
 -- ── the places that are numbered 7 and 8: byte 13, and bytes 14 and 15 of a block ──
@@ -293,6 +294,11 @@ line-first f r (inl l) = ⊎-elim (λ e. rw e) (λ w. rw (w .split)) (l .0)
 line-first f r (inr (inl l)) = rw (l .split)
 line-first f r (inr (inr l)) = rw (l .split)
 
+pub block-first : (f : List ℕ) (r : Record) (area : List ℕ) → Block f r area → getD f 0 0 ≡ 13
+block-first f r area (inl w) = rw (w .0 .framed .split)
+block-first f r area (inr (inl w)) = rw (w .0 .framed .split)
+block-first f r area (inr (inr w)) = rw (w .framed .split)
+
 -- live bytes whose byte 0 tells version 2 begin some block
 block-behind : (x : List ℕ) → 0 < length x → length x ≤ 15 → getD x 0 0 ≡ 13 → Live Whole x
     → (y : List ℕ) × (a : Header) × Block (x ++ y) (a .«record») (a .area)
@@ -345,7 +351,7 @@ module _ (b : ℕ) (t : List ℕ) (small : b < 256) where
   behindCommand (some k) = shift 1 (familyRest k .verdict t)
 
   abbrev byMove : Move (Unit {0}) Kind → Verdict Header
-  byMove m = after (moved 7 m (run 7 (stepByte family) t)) (λ k r. familyRest k .verdict r) (b ∷ t)
+  byMove m = after (moved 7 m (run 7 (stepByte family) (λ q. 3) t)) (λ k r. familyRest k .verdict r) (b ∷ t)
 
   pub family-verdict : (o : Option Kind) → family b ≡ o → verdict (signature ++ PROXY ∷ b ∷ t) ≡ shift 12 (shift 1 (behindCommand o))
   family-verdict o e =
@@ -359,7 +365,7 @@ module _ (b : ℕ) (t : List ℕ) (small : b < 256) where
 
   later : (v : Verdict Header) → refused 7 13 ≡ shift 12 (shift 1 (shift 1 v)) → ⊥
   later (accepted h n) e = let z : _≡_ {A = ℕ} 0 1 = cc in omega arith
-  later more e = let z : _≡_ {A = ℕ} 0 1 = cc in omega arith
+  later (more n) e = let z : _≡_ {A = ℕ} 0 1 = cc in omega arith
   later (refused k p) e = let z : 13 ≡ 12 + (1 + (1 + p)) = cc in omega arith
 
   -- under PROXY refused with 7 only where the table has no row
@@ -368,7 +374,7 @@ module _ (b : ℕ) (t : List ℕ) (small : b < 256) where
   no-family (some k) e = absurd (later (familyRest k .verdict t) e)
 
   abbrev byLocal : Bool → Verdict Header
-  byLocal x = after (moved 7 (pick x (done b) dead) (run 7 (stepByte any) t)) (λ c r. skipped (bare Local) .verdict r) (b ∷ t)
+  byLocal x = after (moved 7 (pick x (done b) dead) (run 7 (stepByte any) (λ q. 3) t)) (λ c r. skipped (bare Local) .verdict r) (b ∷ t)
 
   -- and under LOCAL never
   pub local-taken : refused 7 13 ≡ verdict (signature ++ LOCAL ∷ b ∷ t) → ⊥

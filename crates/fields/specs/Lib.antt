@@ -1,5 +1,6 @@
 pub mod LineFields
 pub mod LineMembers
+pub mod Lengths
 pub mod BlockFields
 pub mod BlockMembers
 pub mod Places
@@ -7,3 +8,5 @@ pub mod Exactness
 pub mod TableRight
 pub mod FactsForProofs
 pub mod Facts
+pub mod Counts
+pub mod Reads

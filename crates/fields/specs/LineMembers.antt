@@ -7,7 +7,6 @@ use native.Mathlib.Omega.{arith}
 use lib.Seq.{append-snoc}
 use Rattle.exact.specs.Ascii.{ascii}
 use Rattle.exact.specs.Ended.{Ended}
-use Rattle.exact.specs.Parser.{Parser}
 use Rattle.exact.specs.LiteralLaws.{text}
 use Rattle.decimal.specs.Decimal.{Decimal}
 use Rattle.line_end.specs.Line.{FirstEnd}
@@ -18,7 +17,7 @@ use Rattle.record.specs.declared.Record.{Record}
 use Rattle.record.specs.Records.{recordOf, bare}
 use Rattle.header.specs.Line.{TcpLine, LongLine, UnknownLine}
 use Rattle.header.specs.Header.{Header}
-use Rattle.fields.specs.LineFields.{lined, lineFeed, tcp, shortEnd, longEnd, unknown, tcp4, tcp6, tcps, line}
+use Rattle.fields.specs.LineFields.{lined, AddressParser, lineFeed, tcp, shortEnd, longEnd, unknown, tcp4, tcp6, tcps, line}
 
 -- ── the members of a TCP line ──
 -- a TCP line behind "PROXY TCP", whose word ends with the byte x
@@ -43,8 +42,8 @@ pub chain : (f front back t : List ℕ) (end : ℕ) (rest : List ℕ) → f ≡ 
     → f ≡ t ++ (end ∷ rest)
 chain f front back t end rest e e′ e″ = rw (e, e′, e″) (append-snoc t end rest)
 
-module _ (x : ℕ) (small : x < 256) (kind : Kind) (Address : List ℕ → List ℕ → Type 0) (address : Parser (List ℕ))
-    (same : (f a : List ℕ) → address .field .lang f a ↔ Ended Address 32 f a)
+module _ (x : ℕ) (small : x < 256) (kind : Kind) (Address : List ℕ → List ℕ → Type 0) (address : AddressParser)
+    (same : (m : ℕ) (f a : List ℕ) → address m .field .lang f a ↔ Ended Address 32 f a)
   where
     tcp-rest : (f : List ℕ) (h : Header) → tcp x small kind address .field .lang f h → TcpRest x kind Address f h
     tcp-rest f h l =
@@ -53,8 +52,8 @@ module _ (x : ℕ) (small : x < 256) (kind : Kind) (Address : List ℕ → List 
         let l₃ = l₂ .second in
         let l₄ = l₃ .second in
         let l₅ = l₄ .second in
-        let source = same _ _ .0 (l₁ .first) in
-        let destination = same _ _ .0 (l₂ .first) in
+        let source = same _ _ _ .0 (l₁ .first) in
+        let destination = same _ _ _ .0 (l₂ .first) in
         record {
           source = source .text;
           destination = destination .text;
@@ -93,13 +92,13 @@ module _ (x : ℕ) (small : x < 256) (kind : Kind) (Address : List ℕ → List 
             back = w .destination ++ 32 ∷ w .source-port ++ 32 ∷ w .destination-port ++ 13 ∷ 10 ∷ [];
             mid = w .from;
             split = simp append-assoc;
-            first = same _ _ .1 (record { text = w .source; split = refl; whole = w .whole-source });
+            first = same _ _ _ .1 (record { text = w .source; split = refl; whole = w .whole-source });
             second = record {
               front = w .destination ++ 32 ∷ [];
               back = w .source-port ++ 32 ∷ w .destination-port ++ 13 ∷ 10 ∷ [];
               mid = w .to;
               split = simp append-assoc;
-              first = same _ _ .1 (record { text = w .destination; split = refl; whole = w .whole-destination });
+              first = same _ _ _ .1 (record { text = w .destination; split = refl; whole = w .whole-destination });
               second = record {
                 front = w .source-port ++ 32 ∷ [];
                 back = w .destination-port ++ 13 ∷ 10 ∷ [];
@@ -217,8 +216,8 @@ module _ (f : List ℕ) (h : Header) where
         },
       )
 
-module _ (x : ℕ) (small : x < 256) (kind : Kind) (Address : List ℕ → List ℕ → Type 0) (address : Parser (List ℕ))
-    (same : (f a : List ℕ) → address .field .lang f a ↔ Ended Address 32 f a)
+module _ (x : ℕ) (small : x < 256) (kind : Kind) (Address : List ℕ → List ℕ → Type 0) (address : AddressParser)
+    (same : (m : ℕ) (f a : List ℕ) → address m .field .lang f a ↔ Ended Address 32 f a)
   where
     tcp-line : (g : List ℕ) (h : Header) → tcp x small kind address .field .lang g h
         → Lined (TcpLine (ascii "TCP" ++ x ∷ []) kind Address) (ascii "PROXY TCP" ++ g) h
@@ -271,9 +270,9 @@ module _ (x : ℕ) (small : x < 256) (kind : Kind) (Address : List ℕ → List 
               }),
         )
 
-module _ (Address4 Address6 : List ℕ → List ℕ → Type 0) (address4 address6 : Parser (List ℕ))
-    (same4 : (f a : List ℕ) → address4 .field .lang f a ↔ Ended Address4 32 f a)
-    (same6 : (f a : List ℕ) → address6 .field .lang f a ↔ Ended Address6 32 f a)
+module _ (Address4 Address6 : List ℕ → List ℕ → Type 0) (address4 address6 : AddressParser)
+    (same4 : (m : ℕ) (f a : List ℕ) → address4 m .field .lang f a ↔ Ended Address4 32 f a)
+    (same6 : (m : ℕ) (f a : List ℕ) → address6 m .field .lang f a ↔ Ended Address6 32 f a)
   where
     abbrev pub AnyLine : List ℕ → Record → Type 0
     AnyLine f r = UnknownLine f r ⊎ (TcpLine (ascii "TCP4") (Ip4 Stream) Address4 f r ⊎ TcpLine (ascii "TCP6") (Ip6 Stream) Address6 f r)

@@ -12,14 +12,13 @@ use borrow.Author.Tests.{ne-eqb, eq-eqb, le-ltb}
 use Rattle.exact.specs.Ascii.{ascii}
 use Rattle.exact.specs.Ended.{Ended}
 use Rattle.exact.specs.Pick.{pick}
-use Rattle.exact.specs.Field.{Field, seq}
+use Rattle.exact.specs.Field.{Field, seq, flat}
 use Rattle.exact.specs.Machine.{leaf}
-use Rattle.exact.specs.Parser.{Parser, just, _then_, either}
+use Rattle.exact.specs.Parser.{just}
 use Rattle.exact.specs.Literal.{Literal}
-use Rattle.exact.specs.Byte.{OneByte, count}
-use Rattle.exact.specs.Number.{any, Number, number16}
+use Rattle.exact.specs.Byte.{OneByte}
+use Rattle.exact.specs.Number.{any, Number}
 use Rattle.exact.specs.Numbered.{Numbered, numbered-just, numbered-leaf, numbered-text, numbered-then, numbered-either}
-use Rattle.exact.specs.Network.{number}
 use Rattle.decimal.specs.Decimal.{Digits, Decimal}
 use Rattle.ip4.specs.Ip4.{Address as Ip4Address}
 use Rattle.line_end.specs.LineLeaf.{LineEnd}
@@ -35,8 +34,9 @@ use Rattle.record.specs.declared.Transport.the-variants.{Stream}
 use Rattle.header.specs.Line.{Ip6Address}
 use Rattle.header.specs.Block.{signature}
 use Rattle.header.specs.Header.{Header, placeNumber, partsEnded, tcpNumber, unknownNumber, blockNumber}
-use Rattle.fields.specs.LineFields.{lined, proxyWord, unknownWord, tcpWord, familyWord, crField, spaceField, restField, lfField, unknownEnd, lineFeed, sourcePort, destinationPort, fromDestinationPort, fromSourcePort, fromDestination, fromSource, tcp, shortEnd, longEnd, isCr, is4, isU, short-starts, long-starts, unknown, tcp4, tcp6, starts4, starts6, tcps, unknown-starts, tcps-starts, line}
-use Rattle.fields.specs.BlockFields.{blocked, Command, local, proxy, commandOf, command, always, skipped, fits, port, tlvs, fit-opens, addresses, addressed, familyRest, familyField, anyByte, commandRest, signatureField, block}
+use Rattle.fields.specs.LineFields.{lined, AddressParser, words, families, fromRest, proxyWord, unknownWord, tcpWord, familyWord, crField, spaceField, restField, lfField, unknownEnd, lineFeed, sourcePort, destinationPort, fromDestinationPort, fromSourcePort, fromDestination, fromSource, tcp, shortEnd, longEnd, isCr, is4, isU, short-starts, long-starts, unknown, tcp4, tcp6, starts4, starts6, tcps, unknown-starts, tcps-starts, line}
+use Rattle.fields.specs.BlockFields.{Command, local, proxy, commandOf, command, always, anyLength, skippedBytes, skipped, port, tlvs, blockLengthField, addresses, addressed, familyRest, familyField, anyByte, commandRest, fromCommand, signatureField, block}
+use Rattle.fields.specs.Lengths.{fits}
 
 -- ── version 2: the place alone ──
 -- at least the sixteen bytes before the block have come
@@ -101,39 +101,35 @@ module _ (c b : ℕ) where
   behind-length : (good : ℕ → Bool) (f : List ℕ) (n : ℕ) → Number good f n → Behind (fourteen ++ f)
   behind-length good f n l = (refl, rw (l .split) (omega arith))
 
-  -- the length, and then what is numbered 9
-  numbered-rest : {B : Type 0} (good : ℕ → Bool) (opens : (h : ℕ) → (d : ℕ) × (d < 256) × (good (number h d) ≡ true)) (Q : ℕ → Parser B)
-      → ((n : ℕ) → AllNine (Q n .field)) → Numbered placeNumber ((number16 good 8 opens then Q) .field) fourteen
-  numbered-rest good opens Q nines =
-      numbered-then placeNumber (number16 good 8 opens) Q fourteen (numbered-length good)
-      (λ n f l. numbered-nine (Q n .field) (fourteen ++ f) (nines n) (behind-length good f n l))
-
   numbered-skipped : (r : Record) → Numbered placeNumber (skipped r .field) fourteen
   numbered-skipped r =
-      numbered-rest always (λ h. (0, (omega arith), refl)) (λ n. count 9 n then λ u. just (blocked r []))
-      (λ n. nine-seq _ _ (λ u k p. p) (λ a u k p. absurd p))
+      numbered-then placeNumber anyLength (skippedBytes r) fourteen (numbered-length always)
+      (λ n f l. numbered-nine _ (fourteen ++ f) (nine-seq _ _ (λ u k p. p) (λ a u k p. absurd p)) (behind-length always f n l))
 
-  nine-port : (k : Kind) → AllNine (port k .field)
-  nine-port Local u j p = absurd p
-  nine-port Unspecified u j p = absurd p
-  nine-port (Ip4 t) u j p = p
-  nine-port (Ip6 t) u j p = p
-  nine-port (Unix t) u j p = absurd p
+  nine-port : (m : ℕ) (k : Kind) → AllNine (port m k .field)
+  nine-port m Local u j p = absurd p
+  nine-port m Unspecified u j p = absurd p
+  nine-port m (Ip4 t) u j p = p
+  nine-port m (Ip6 t) u j p = p
+  nine-port m (Unix t) u j p = absurd p
 
-  nine-area : (a n : ℕ) (b : Bool) → AllNine ((pick b (just []) (tlvs (n - (a + 3)))) .field)
+  nine-area : (a n : ℕ) (b : Bool) → AllNine ((pick b (just (flat 0) []) (tlvs (n - (a + 3)))) .field)
   nine-area a n true u j p = absurd p
   nine-area a n false u j p = p
 
-  numbered-addressed : (k : Kind) → Numbered placeNumber (addressed k .field) fourteen
-  numbered-addressed k =
-      numbered-rest (fits (blockLength k)) (fit-opens k) (addresses k)
-      (λ n.
+  nine-addresses : (k : Kind) (n : ℕ) → AllNine (addresses k n .field)
+  nine-addresses k n =
       nine-seq _ _ (λ u j p. p)
       (λ from.
       nine-seq _ _ (λ u j p. p)
       (λ to.
-      nine-seq _ _ (nine-port k)
-      (λ p. nine-seq _ _ (nine-port k) (λ q. nine-seq _ _ (nine-area (blockLength k) n (eqb n (blockLength k))) (λ a u j x. absurd x))))))
+      nine-seq _ _ (nine-port _ k)
+      (λ p. nine-seq _ _ (nine-port _ k) (λ q. nine-seq _ _ (nine-area (blockLength k) n (eqb n (blockLength k))) (λ a u j x. absurd x)))))
+
+  numbered-addressed : (k : Kind) → Numbered placeNumber (addressed k .field) fourteen
+  numbered-addressed k =
+      numbered-then placeNumber (blockLengthField k) (addresses k) fourteen (numbered-length (fits (blockLength k)))
+      (λ n f l. numbered-nine _ (fourteen ++ f) (nine-addresses k n) (behind-length (fits (blockLength k)) f n l))
 
   numbered-family : (k : Kind) → Numbered placeNumber (familyRest k .field) fourteen
   numbered-family Local = numbered-skipped (bare Local)
@@ -152,10 +148,10 @@ numbered-command proxy c =
 
 pub numbered-block : Numbered placeNumber (block .field) []
 numbered-block =
-    numbered-then placeNumber signatureField (λ u. command then commandRest) []
-    (numbered-text placeNumber 1 0 0x0D (0x0A ∷ 0x0D ∷ 0x0A ∷ 0x00 ∷ 0x0D ∷ 0x0A ∷ 0x51 ∷ 0x55 ∷ 0x49 ∷ 0x54 ∷ 0x0A ∷ []) (omega arith) [] refl)
+    numbered-then placeNumber signatureField (λ u. fromCommand) []
+    (numbered-text placeNumber 1 (flat 0) 0 0x0D (0x0A ∷ 0x0D ∷ 0x0A ∷ 0x00 ∷ 0x0D ∷ 0x0A ∷ 0x51 ∷ 0x55 ∷ 0x49 ∷ 0x54 ∷ 0x0A ∷ []) (omega arith) [] refl)
     (λ u f l.
-    subst (Numbered placeNumber ((command then commandRest) .field)) (sym (l .0))
+    subst (Numbered placeNumber (fromCommand .field)) (sym (l .0))
     (numbered-then placeNumber command commandRest signature (numbered-byte commandOf 6 signature refl)
     (λ x g m. subst (λ (t : List ℕ). Numbered placeNumber (commandRest x .field) (signature ++ t)) (sym (m .split)) (numbered-command x (m .byte)))))
 
@@ -261,32 +257,32 @@ ip6-clear f a l = spelt-clear f (address-bounds f (l .groups) (l .text) .spelt)
 
 -- ── the lines ──
 -- what an address field has to be, for a TCP line
-pub record AddressField (Address : List ℕ → List ℕ → Type 0) (address : Parser (List ℕ)) : Type 0 where
-  pub same : (f a : List ℕ) → address .field .lang f a ↔ Ended Address 32 f a
-  pub numbered : (before : List ℕ) (n : ℕ) → Tcp before n → 3 ≡ tcpNumber n → Numbered placeNumber (address .field) before
+pub record AddressField (Address : List ℕ → List ℕ → Type 0) (address : AddressParser) : Type 0 where
+  pub same : (m : ℕ) (f a : List ℕ) → address m .field .lang f a ↔ Ended Address 32 f a
+  pub numbered : (m : ℕ) (before : List ℕ) (n : ℕ) → Tcp before n → 3 ≡ tcpNumber n → Numbered placeNumber (address m .field) before
   pub clear : Clear Address
 
 numbered-feed : (h : Header) (before : List ℕ) → 5 ≡ placeNumber before → Numbered placeNumber (lineFeed h .field) before
 numbered-feed h before e =
-    numbered-then placeNumber lfField (λ x. just h) before
+    numbered-then placeNumber lfField (λ x. just (flat 0) h) before
     (numbered-leaf placeNumber 5 (Literal 0 (10 ∷ [])) before
     (λ u c t a l. e ∙ ap placeNumber (sym (append-nil before) ∙ ap (λ (x : List ℕ). before ++ x) (sym (one-prefix u c t 10 (l .0))))))
-    (λ a f l. numbered-just placeNumber h (before ++ f))
+    (λ a f l. numbered-just placeNumber (flat 0) h (before ++ f))
 
-module _ (kind : Kind) (Address : List ℕ → List ℕ → Type 0) (address : Parser (List ℕ)) (field : AddressField Address address) where
-  address-one : (f a : List ℕ) → address .field .lang f a → partsEnded f ≡ 1
-  address-one f a l = ended-one Address 32 (field .clear) refl f a (field .same f a .0 l)
+module _ (kind : Kind) (Address : List ℕ → List ℕ → Type 0) (address : AddressParser) (field : AddressField Address address) where
+  address-one : (m : ℕ) (f a : List ℕ) → address m .field .lang f a → partsEnded f ≡ 1
+  address-one m f a l = ended-one Address 32 (field .clear) refl f a (field .same m f a .0 l)
 
   -- behind "PROXY TCP4 " or "PROXY TCP6 "
   numbered-parts : (before : List ℕ) → Tcp before 2
       → Numbered placeNumber (fromSource kind address .field) before
   numbered-parts before w =
-      numbered-then placeNumber address (fromDestination kind address) before (field .numbered before 2 w refl)
+      numbered-then placeNumber (address (address 5 .least)) (fromDestination kind address) before (field .numbered _ before 2 w refl)
       (λ from f₁ l₁.
-      let w₁ = tcp-more before f₁ 2 1 w (address-one f₁ from l₁) in
-      numbered-then placeNumber address (fromSourcePort kind from) (before ++ f₁) (field .numbered (before ++ f₁) 3 w₁ refl)
+      let w₁ = tcp-more before f₁ 2 1 w (address-one _ f₁ from l₁) in
+      numbered-then placeNumber (address 5) (fromSourcePort kind from) (before ++ f₁) (field .numbered _ (before ++ f₁) 3 w₁ refl)
       (λ to f₂ l₂.
-      let w₂ = tcp-more (before ++ f₁) f₂ 3 1 w₁ (address-one f₂ to l₂) in
+      let w₂ = tcp-more (before ++ f₁) f₂ 3 1 w₁ (address-one _ f₂ to l₂) in
       numbered-then placeNumber sourcePort (fromDestinationPort kind from to) (before ++ f₁ ++ f₂)
       (numbered-ended (Decimal 65535) 32 (decimal-clear 65535) refl 4 (before ++ f₁ ++ f₂) 4 w₂ refl)
       (λ p f₃ l₃.
@@ -299,8 +295,8 @@ module _ (kind : Kind) (Address : List ℕ → List ℕ → Type 0) (address : P
 
   numbered-tcp : (x : ℕ) (small : x < 256) → x ≡ 52 ⊎ x ≡ 54 → Numbered placeNumber (tcp x small kind address .field) (ascii "PROXY TCP")
   numbered-tcp x small digit =
-      numbered-then placeNumber (familyWord x small) (λ u. fromSource kind address) (ascii "PROXY TCP")
-      (numbered-text placeNumber 2 0 x (32 ∷ []) (small, (omega arith, tt)) (ascii "PROXY TCP") (⊎-elim (λ e. rw e) (λ e. rw e) digit))
+      numbered-then placeNumber (familyWord (fromSource kind address .least) x small) (λ u. fromSource kind address) (ascii "PROXY TCP")
+      (numbered-text placeNumber 2 (flat 0) 0 x (32 ∷ []) (small, (omega arith, tt)) (ascii "PROXY TCP") (⊎-elim (λ e. rw e) (λ e. rw e) digit))
       (λ u f l.
       subst (λ (t : List ℕ). Numbered placeNumber (fromSource kind address .field) (ascii "PROXY TCP" ++ t)) (sym (l .0))
       (numbered-parts (ascii "PROXY TCP" ++ x ∷ 32 ∷ [])
@@ -313,40 +309,40 @@ five n h = let a : 1 ≤ n = omega arith in simp (le-ltb n 1 a, le-ltb n 2 h)
 numbered-unknown : Numbered placeNumber (unknown .field) (ascii "PROXY ")
 numbered-unknown =
     numbered-then placeNumber unknownWord (λ x. unknownEnd) (ascii "PROXY ")
-    (numbered-text placeNumber 2 0 85 (ascii "NKNOWN") (omega arith) (ascii "PROXY ") refl)
+    (numbered-text placeNumber 2 (flat 0) 0 85 (ascii "NKNOWN") (omega arith) (ascii "PROXY ") refl)
     (λ x f l.
     subst (λ (t : List ℕ). Numbered placeNumber (unknownEnd .field) (ascii "PROXY " ++ t)) (sym (l .0))
     (numbered-either placeNumber isCr shortEnd longEnd short-starts long-starts (ascii "PROXY UNKNOWN")
     (numbered-then placeNumber crField (λ y. lineFeed (lined (bare Unspecified))) (ascii "PROXY UNKNOWN")
-    (numbered-text placeNumber 2 0 13 [] (omega arith) (ascii "PROXY UNKNOWN") refl)
+    (numbered-text placeNumber 2 (flat 0) 0 13 [] (omega arith) (ascii "PROXY UNKNOWN") refl)
     (λ y g m.
     subst (λ (t : List ℕ). Numbered placeNumber (lineFeed (lined (bare Unspecified)) .field) (ascii "PROXY UNKNOWN" ++ t)) (sym (m .0))
     (numbered-feed _ (ascii "PROXY UNKNOWN\r") refl)))
-    (numbered-then placeNumber spaceField (λ y. restField then λ z. just (lined (bare Unspecified))) (ascii "PROXY UNKNOWN")
-    (numbered-text placeNumber 2 0 32 [] (omega arith) (ascii "PROXY UNKNOWN") refl)
+    (numbered-then placeNumber (spaceField 2) (λ y. fromRest) (ascii "PROXY UNKNOWN")
+    (numbered-text placeNumber 2 (flat 0) 0 32 [] (omega arith) (ascii "PROXY UNKNOWN") refl)
     (λ y g m.
-    subst (λ (t : List ℕ). Numbered placeNumber ((restField then λ z. just (lined (bare Unspecified))) .field) (ascii "PROXY UNKNOWN" ++ t)) (sym (m .0))
-    (numbered-then placeNumber restField (λ z. just (lined (bare Unspecified))) (ascii "PROXY UNKNOWN ")
+    subst (λ (t : List ℕ). Numbered placeNumber (fromRest .field) (ascii "PROXY UNKNOWN" ++ t)) (sym (m .0))
+    (numbered-then placeNumber restField (λ z. just (flat 0) (lined (bare Unspecified))) (ascii "PROXY UNKNOWN ")
     (numbered-leaf placeNumber 5 (LineEnd 93) (ascii "PROXY UNKNOWN ")
     (λ u c t a k.
     five (partsEnded (ascii "PROXY UNKNOWN " ++ u)) (let h = ended-append (ascii "PROXY UNKNOWN ") u in omega arith)))
-    (λ z k n. numbered-just placeNumber (lined (bare Unspecified)) (ascii "PROXY UNKNOWN " ++ k)))))))
+    (λ z k n. numbered-just placeNumber (flat 0) (lined (bare Unspecified)) (ascii "PROXY UNKNOWN " ++ k)))))))
 
-module _ (Address4 Address6 : List ℕ → List ℕ → Type 0) (address4 address6 : Parser (List ℕ)) (field4 : AddressField Address4 address4)
+module _ (Address4 Address6 : List ℕ → List ℕ → Type 0) (address4 address6 : AddressParser) (field4 : AddressField Address4 address4)
     (field6 : AddressField Address6 address6)
   where
     pub numbered-line : Numbered placeNumber (line address4 address6 .field) []
     numbered-line =
-        numbered-then placeNumber proxyWord (λ x. either isU unknown (tcps address4 address6) (unknown-starts address4 address6) (tcps-starts address4 address6)) []
-        (numbered-text placeNumber 1 0 80 (ascii "ROXY ") (omega arith) [] refl)
+        numbered-then placeNumber (proxyWord (words address4 address6 .least)) (λ x. words address4 address6) []
+        (numbered-text placeNumber 1 (flat 0) 0 80 (ascii "ROXY ") (omega arith) [] refl)
         (λ x f l.
-        subst (Numbered placeNumber (either isU unknown (tcps address4 address6) (unknown-starts address4 address6) (tcps-starts address4 address6) .field)) (sym (l .0))
+        subst (Numbered placeNumber (words address4 address6 .field)) (sym (l .0))
         (numbered-either placeNumber isU unknown (tcps address4 address6) (unknown-starts address4 address6) (tcps-starts address4 address6) (ascii "PROXY ")
         numbered-unknown
-        (numbered-then placeNumber tcpWord (λ y. either is4 (tcp4 address4 address6) (tcp6 address4 address6) (starts4 address4 address6) (starts6 address4 address6)) (ascii "PROXY ")
-        (numbered-text placeNumber 2 0 84 (ascii "CP") (omega arith) (ascii "PROXY ") refl)
+        (numbered-then placeNumber (tcpWord (families address4 address6 .least)) (λ y. families address4 address6) (ascii "PROXY ")
+        (numbered-text placeNumber 2 (flat 0) 0 84 (ascii "CP") (omega arith) (ascii "PROXY ") refl)
         (λ y g m.
-        subst (λ (t : List ℕ). Numbered placeNumber (either is4 (tcp4 address4 address6) (tcp6 address4 address6) (starts4 address4 address6) (starts6 address4 address6) .field) (ascii "PROXY " ++ t)) (sym (m .0))
+        subst (λ (t : List ℕ). Numbered placeNumber (families address4 address6 .field) (ascii "PROXY " ++ t)) (sym (m .0))
         (numbered-either placeNumber is4 (tcp4 address4 address6) (tcp6 address4 address6) (starts4 address4 address6) (starts6 address4 address6) (ascii "PROXY TCP")
         (numbered-tcp (Ip4 Stream) Address4 address4 field4 52 (omega arith) (inl refl))
         (numbered-tcp (Ip6 Stream) Address6 address6 field6 54 (omega arith) (inr refl)))))))

@@ -1,11 +1,11 @@
--- The table of W01 to W14 is right: each row's verdict is computed.
+-- The tables of W01 to W14 and of K10 are right: each row's verdict is computed.
 use mathlib.Core.Path.{_≡_, refl, subst}
 use mathlib.Core.List.{List, [], _∷_}
 use Rattle.exact.specs.Claim.{Verdict}
 use Rattle.ip4.specs.Ip4Verdict.{ip4Verdict}
 use Rattle.header.specs.Header.{Header}
 use Rattle.header.specs.Demand.{Judges}
-use Rattle.header.specs.Table.{Row, table, Right}
+use Rattle.header.specs.Table.{Row, table, leastTable, Right}
 use Rattle.fields.specs.Exactness.{verdict, judges}
 
 abbrev Computed : List Row → Type 0
@@ -21,3 +21,7 @@ unfolding ip4Verdict
 table-right =
     right table
     (refl, (refl, (refl, (refl, (refl, (refl, (refl, (refl, (refl, (refl, (refl, (refl, (refl, (refl, tt))))))))))))))
+
+pub least-table-right : Right leastTable
+unfolding ip4Verdict
+least-table-right = right leastTable (refl, (refl, (refl, (refl, tt))))

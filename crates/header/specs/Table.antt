@@ -1,4 +1,5 @@
--- The examples W01 to W14 of document 01, as one table under one statement: each answer is the one that demand 3 allows. `fields` proves it.
+-- The examples W01 to W14 of document 01, and those of document 02's K10, as tables under one statement: each answer is the one that demand 3 allows.
+-- `fields` proves it.
 use mathlib.Core.List.{List, [], _∷_, _++_}
 use Prim.Native.Nat.{ℕ}
 use Rattle.exact.specs.Ascii.{ascii}
@@ -31,7 +32,7 @@ zeros = 0 ∷ 0 ∷ 0 ∷ 0 ∷ 0 ∷ 0 ∷ 0 ∷ 0 ∷ 0 ∷ 0 ∷ 0 ∷ 0 ∷ 
 
 abbrev pub table : List Row
 table =
-    record { bytes = []; answer = more }
+    record { bytes = []; answer = more 15 }
     ∷ record { bytes = W02; answer = accepted tester 47 }
     ∷ record { bytes = W02 ++ ascii "GET "; answer = accepted tester 47 }
     ∷ record {
@@ -57,6 +58,14 @@ table =
       answer = accepted (record { «record» = tester .«record»; version = 2; area = 0x04 ∷ 0x00 ∷ 0x00 ∷ [] }) 31;
     }
     ∷ record { bytes = signature ++ 0x21 ∷ 0x11 ∷ 0x00 ∷ 0x0F ∷ a ++ 0x04 ∷ 0x00 ∷ 0x01 ∷ []; answer = refused 9 30 } ∷ []
+
+-- K10: "Empty input and "PROXY T" give 15; "PROXY TCP4 " gives 21; signature, 21, 11 gives 14."
+abbrev pub leastTable : List Row
+leastTable =
+    record { bytes = []; answer = more 15 }
+    ∷ record { bytes = ascii "PROXY T"; answer = more 15 }
+    ∷ record { bytes = ascii "PROXY TCP4 "; answer = more 21 }
+    ∷ record { bytes = signature ++ 0x21 ∷ 0x11 ∷ []; answer = more 14 } ∷ []
 
 -- each answer is the one that demand 3 allows
 abbrev pub Right : List Row → Type 0

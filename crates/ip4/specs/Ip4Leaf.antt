@@ -1,36 +1,46 @@
 -- For proofs. The leaf of IPv4 text that a byte ends: four decimals, one behind the other.
-use mathlib.Core.Path.{_≡_, refl}
+use mathlib.Core.Path.{_≡_, refl, subst}
 use mathlib.Core.List.{List, [], _∷_, _++_, append-assoc, append-nil}
 use mathlib.Core.Logic.{⊎-elim}
-use Prim.Native.Nat.{ℕ, zero, suc, _<_}
+use Prim.Native.Nat.{ℕ, zero, suc, _+_, _*_, _≤_, _<_}
 use native.Mathlib.Omega.{arith}
 use lib.Dec.{eqb}
-use Rattle.exact.specs.Field.{Exact, Opens}
+use Rattle.exact.specs.Field.{Exact, Least, flat}
 use Rattle.exact.specs.Machine.{leaf}
 use Rattle.exact.specs.Pick.{pick-by}
 use Rattle.exact.specs.Parser.{Parser, InBytes, just, _then_, recast}
+use Rattle.exact.specs.Verdicts.{Few, few-more, few-after}
 use Rattle.exact.specs.Ended.{Ended}
 use Rattle.decimal.specs.Decimal.{Digit}
 use Rattle.ip4.specs.Ip4.{Address}
-use Rattle.decimal.specs.DecimalLeaf.{decimal}
-use Rattle.ip4.specs.Ip4Verdict.{endOf, ip4Verdict}
+use Rattle.decimal.specs.DecimalLeaf.{decimal, decimal-few}
+use Rattle.decimal.specs.DecimalVerdict.{decimalVerdict}
+use Rattle.ip4.specs.Ip4Verdict.{endOf, octetsVerdict, ip4Verdict}
 
-module _ (k end : ℕ) (apart : Digit end → ⊥) (small : end < 256) where
-  end-apart : (m : ℕ) → Digit (endOf end m) → ⊥
-  end-apart m = pick-by (λ (c : ℕ). Digit c → ⊥) (eqb m 0) (λ t. apart) (λ t d. let h = d .0 in omega arith)
+module _ (k m end : ℕ) (apart : Digit end → ⊥) (small : end < 256) where
+  end-apart : (left : ℕ) → Digit (endOf end left) → ⊥
+  end-apart left = pick-by (λ (c : ℕ). Digit c → ⊥) (eqb left 0) (λ t. apart) (λ t d. let h = d .0 in omega arith)
 
-  end-small : (m : ℕ) → endOf end m < 256
-  end-small m = pick-by (λ (c : ℕ). c < 256) (eqb m 0) (λ t. small) (λ t. omega arith)
+  end-small : (left : ℕ) → endOf end left < 256
+  end-small left = pick-by (λ (c : ℕ). c < 256) (eqb left 0) (λ t. small) (λ t. omega arith)
 
-  abbrev octetsOn : ℕ → List ℕ → Parser (List ℕ)
-  octetsOn zero octets = just octets
-  octetsOn (suc m) octets = decimal k 255 (endOf end m) (end-apart m) (end-small m) then λ n. octetsOn m (octets ++ n ∷ [])
+  -- each octet asks a digit and its end
+  abbrev octetsOn : (left : ℕ) → List ℕ → (P : Parser (List ℕ) (flat m)) × (P .least ≡ 2 * left + m)
+  octetsOn zero octets = (just (flat m) octets, omega arith)
+  octetsOn (suc left) octets = (
+    (decimal k (2 * left + m) 255 (endOf end left) (end-apart left) (end-small left) then λ n. octetsOn left (octets ++ n ∷ []) .0)
+        (λ n f l. octetsOn left (octets ++ n ∷ []) .1),
+    omega arith,
+  )
 
-  number : (m : ℕ) (octets : List ℕ) (u : List ℕ) (j : ℕ) → octetsOn m octets .field .at u j → j ≡ k
+  abbrev fourOctets : Parser (List ℕ) (flat m)
+  fourOctets = octetsOn 4 [] .0
+
+  number : (left : ℕ) (octets : List ℕ) (u : List ℕ) (j : ℕ) → octetsOn left octets .0 .field .at u j → j ≡ k
   number zero octets u j w = absurd w
-  number (suc m) octets u j w = ⊎-elim (λ w. w .1) (λ w. number m (octets ++ w .mid ∷ []) (w .back) j (w .part)) w
+  number (suc left) octets u j w = ⊎-elim (λ w. w .1) (λ w. number left (octets ++ w .mid ∷ []) (w .back) j (w .part)) w
 
-  address : (f octets : List ℕ) → octetsOn 4 [] .field .lang f octets → Ended Address end f octets
+  address : (f octets : List ℕ) → fourOctets .field .lang f octets → Ended Address end f octets
   address f octets l =
       let m = l .second in
       let n = m .second in
@@ -56,7 +66,7 @@ module _ (k end : ℕ) (apart : Digit end → ⊥) (small : end < 256) where
         };
       }
 
-  fields : (f octets : List ℕ) → Ended Address end f octets → octetsOn 4 [] .field .lang f octets
+  fields : (f octets : List ℕ) → Ended Address end f octets → fourOctets .field .lang f octets
   fields f octets l =
       let w = l .whole in
       record {
@@ -89,25 +99,38 @@ module _ (k end : ℕ) (apart : Digit end → ⊥) (small : end < 256) where
         };
       }
 
-  abbrev byFields : Parser (List ℕ)
-  byFields = recast (octetsOn 4 []) (leaf k (Ended Address end)) (λ f a. (address f a, fields f a)) (λ u j o x. number 4 [] u j x)
+  abbrev byFields : Parser (List ℕ) (flat m)
+  byFields = recast fourOctets (leaf k (Ended Address end)) (λ f a. (address f a, fields f a)) (λ u j o x. number 4 [] u j x)
 
-  pub ip4-exact : (s : List ℕ) → Exact (leaf k (Ended Address end)) (ip4Verdict k end s) s
+  pub ip4-exact : (s : List ℕ) → Exact (leaf k (Ended Address end)) (flat m) (ip4Verdict k m end s) s
   unfolding ip4Verdict
   ip4-exact s = byFields .exact s
 
-  pub ip4-opens : Opens (leaf k (Ended Address end)) []
-  ip4-opens = byFields .opens
+  pub ip4-least : Least (leaf k (Ended Address end)) (flat m) (8 + m) []
+  ip4-least = subst (λ (n : ℕ). Least (leaf k (Ended Address end)) (flat m) n []) (omega arith) (byFields .opens)
 
   pub ip4-bytes : InBytes (leaf k (Ended Address end))
   ip4-bytes = byFields .bytes
 
-  abbrev pub ip4 : Parser (List ℕ)
+  abbrev pub ip4 : Parser (List ℕ) (flat m)
   ip4 =
       record {
         field = leaf k (Ended Address end);
-        verdict = ip4Verdict k end;
+        verdict = ip4Verdict k m end;
         exact = ip4-exact;
-        opens = ip4-opens;
+        least = 8 + m;
+        opens = ip4-least;
         bytes = ip4-bytes;
       }
+
+-- no count is over that of no bytes
+octets-few : (k m end left : ℕ) (octets s : List ℕ) → left ≤ 4 → Few (8 + m) (octetsVerdict k m end left octets s)
+octets-few k m end zero octets s h = tt
+octets-few k m end (suc left) octets s h =
+    few-after (8 + m) (decimalVerdict k (2 * left + m) 255 (endOf end left) s) (λ n r. octetsVerdict k m end left (octets ++ n ∷ []) r) s
+    (few-more _ _ (decimalVerdict k (2 * left + m) 255 (endOf end left) s) (omega arith) (decimal-few 255 (endOf end left) k (2 * left + m) s))
+    (λ n r. octets-few k m end left (octets ++ n ∷ []) r (omega arith))
+
+pub ip4-few : (k m end : ℕ) (s : List ℕ) → Few (8 + m) (ip4Verdict k m end s)
+unfolding ip4Verdict
+ip4-few k m end s = octets-few k m end 4 [] s (omega arith)

@@ -29,9 +29,9 @@ fn without(scan: Scan) -> Octets
 
 // Four decimals up to 255, as `decimal` reads them: each ended by a dot, and the last by the byte end.
 pub fn ip4(s: &[u8], end: u8) -> Octets
-    ensures verdict { λ r. ⌜ ((k : ℕ) → toldOctets k r ≡ ip4Verdict k end (now (s .entry))) ⌝ }
+    ensures verdict { λ r. ⌜ ((k m : ℕ) → toldOctets k m r ≡ ip4Verdict k m end (now (s .entry))) ⌝ }
     ensures unused { λ r. ⌜ Unused (r .scan) (r .octets) ⌝ }
-    ensures claim { λ r. ⌜ ((k : ℕ) → (Digit end → ⊥) → Claim (Ended Address end) (λ u. k) (toldOctets k r) (now (s .entry))) ⌝ }
+    ensures claim { λ r. ⌜ ((k : ℕ) → (Digit end → ⊥) → Claim (Ended Address end) (λ u. k) (toldOctets k 0 r) (now (s .entry))) ⌝ }
 {
     let mut octets = [0u8; 4];
     let mut at: usize = 0;
@@ -42,8 +42,8 @@ pub fn ip4(s: &[u8], end: u8) -> Octets
                 octets[i] = n as u8;
                 at += size;
             }
-            Scan::More => {
-                return without(Scan::More);
+            Scan::More(least) => {
+                return without(Scan::More(least + 2 * (3 - i)));
             }
             Scan::Refused(place) => {
                 return without(Scan::Refused(at + place));

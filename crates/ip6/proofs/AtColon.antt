@@ -19,7 +19,7 @@ use Rattle.ip6.specs.Steps.{colon-no-digit, colon-colon, begin-other}
 use Rattle.ip6.specs.Partial.{Partial, sofar, Sized, seenAt, gatheredOf}
 use Rattle.ip6.specs.Answer.{From, Closed}
 use Rattle.ip6.proofs.Spread.{count-length}
-use Rattle.ip6.proofs.Gathered.{has-room, is-full, none-seen, opened, gap-seen, gap-sized}
+use Rattle.ip6.proofs.Gathered.{has-room, is-full, seen-least, none-seen, opened, gap-seen, gap-sized}
 use Rattle.ip6.proofs.Turn.{wants, refuses, passes, likewise, closes}
 
 -- ── the moves ──
@@ -122,7 +122,7 @@ module _ (end : ℕ) (s : List ℕ) (x : Partial) (low : ℕ) where
 
   -- what the machine, in the state q at the place i, answers where a part is there; a group begins at the place `low` or behind it
   abbrev pub Leads : State → ℕ → Part → Type 0
-  Leads q i More = (g : List ℕ) → From end s i q scan.More g
+  Leads q i (More n) = (g : List ℕ) → From end s i q (scan.More n) g
   Leads q i (Refused at) = (g : List ℕ) → From end s i q (scan.Refused at) g
   Leads q i (End at count gaps) =
       Sized (counted count gaps) × (at < length s) × ((t : Scan) (g : List ℕ) → Closed at (gatheredOf (counted count gaps)) t g → From end s i q t g)
@@ -132,7 +132,7 @@ module _ (end : ℕ) (s : List ℕ) (x : Partial) (low : ℕ) where
 
   -- one byte later
   behind-byte : {q p : State} {i j : ℕ} → ((t : Scan) (g : List ℕ) → From end s j p t g → From end s i q t g) → (r : Part) → Leads p j r → Leads q i r
-  behind-byte pass More l = λ g. pass _ g (l g)
+  behind-byte pass (More n) l = λ g. pass _ g (l g)
   behind-byte pass (Refused at) l = λ g. pass _ g (l g)
   behind-byte pass (End at count gaps) l = (l .0, l .1, λ t g f. pass t g (l .2 t g f))
   behind-byte pass (Group at count gaps) l = (l .0, l .1, l .2, l .3, λ t g f. pass t g (l .4 t g f))
@@ -155,7 +155,7 @@ module _ (end : ℕ) (s : List ℕ) (x : Partial) (low : ℕ) where
             λ t g f. gap-group sized few (ltb-true _ _ h) (eqb-false _ _ n) (ltb-true _ _ m) f,
           ))
           (λ m g. gap-full sized (ltb-true _ _ h) (eqb-false _ _ n) (ltb-false _ _ m))))
-          (λ h g. wants (ltb-false _ _ h))
+          (λ h g. wants refl (ltb-false _ _ h))
 
     module _ (few : x .count < 8) (i : ℕ) (late : low ≤ i) where
       colon-leads : Leads (colon (gatheredOf x)) i (behindColon end s i (x .count) (x .gap))
@@ -173,7 +173,7 @@ module _ (end : ℕ) (s : List ℕ) (x : Partial) (low : ℕ) where
           pick-by (Leads (colon (gatheredOf x)) i) (eqb (x .count) 0)
           (λ z g. colon-lone sized (ltb-true _ _ h) (eqb-false _ _ n) (eqb-true _ _ z))
           (λ z. (sized, few, late, ltb-true _ _ h, λ t g f. colon-group sized (ltb-true _ _ h) (eqb-false _ _ n) (eqb-false _ _ z) f))))
-          (λ h g. wants (ltb-false _ _ h))
+          (λ h g. wants refl (ltb-false _ _ h))
 
     pub part-leads : (i : ℕ) → low ≤ i + 1 → Leads (behind (gatheredOf x)) i (partAt end s i (x .count) (x .gap))
     part-leads i late =
@@ -190,4 +190,4 @@ module _ (end : ℕ) (s : List ℕ) (x : Partial) (low : ℕ) where
         pick-by (Leads (behind (gatheredOf x)) i) (eqb (getD s i 0) end)
         (λ e. (sized, ltb-true _ _ h, λ t g f. behind-ends (ltb-true _ _ h) (eqb-false _ _ n) (eqb-true _ _ e) f))
         (λ m g. behind-other (ltb-true _ _ h) (eqb-false _ _ n) (eqb-false _ _ m))))
-        (λ h g. wants (ltb-false _ _ h))
+        (λ h g. wants (sym (seen-least x sized)) (ltb-false _ _ h))

@@ -1,21 +1,25 @@
 -- What `group` may answer, by its tests on the byte at place i, where the machine stands in a group.
-use mathlib.Core.Path.{_≡_, sym, ap, _∙_}
+use mathlib.Core.Path.{_≡_, sym, ap, _∙_, subst}
+use mathlib.Core.Bool.{Bool}
 use mathlib.Core.List.{List}
-use Prim.Native.Nat.{ℕ, zero, suc, _+_, _*_, _^_, _<_}
+use Prim.Native.Nat.{ℕ, zero, suc, _+_, _*_, _^_, _≤_, _<_}
 use native.Mathlib.Numerals.{add-one}
 use native.Mathlib.Omega.{arith}
+use lib.Dec.{eqb}
 use lib.ListN.{length, getD}
-use borrow.Author.Tests.{lt-ltb, le-ltb, eq-eqb}
+use borrow.Author.Tests.{lt-ltb, le-ltb, eq-eqb, ne-eqb}
 use Rattle.exact.specs.Machine.{dead}
 use Rattle.exact.specs.declared.Scan.{Scan}
-use Rattle.exact.specs.declared.Scan.the-variants.{Refused}
+use Rattle.exact.specs.declared.Scan.the-variants.{More, Refused}
+use Rattle.exact.specs.Pick.{pick, pick-by}
+use Rattle.colon_part.specs.Part.{leastBehind as leastCounted}
 use Rattle.hex.specs.Hex.{hexOf}
-use Rattle.ip6.specs.Machine.{Gathered, digits, behind, inside, follow}
+use Rattle.ip6.specs.Machine.{Gathered, push, digits, behind, leastBehind, leastDigit, inside, follow}
 use Rattle.ip6.specs.Steps.{inside-digit, inside-follow}
 use Rattle.ip6.specs.Partial.{Partial, Sized, gatheredOf}
 use Rattle.ip6.specs.Answer.{From}
-use Rattle.ip6.proofs.Gathered.{pushed, push-seen}
-use Rattle.ip6.proofs.Turn.{refuses, passes, likewise}
+use Rattle.ip6.proofs.Gathered.{pushed, push-seen, push-sized, seen-least}
+use Rattle.ip6.proofs.Turn.{wants, refuses, passes, likewise}
 
 -- ── four digits make a number of 16 bits ──
 pub digits-fit : (n v : ℕ) → v < 16 ^ n → n < 4 → v < 4096
@@ -27,6 +31,10 @@ digits-fit (suc (suc (suc (suc n)))) v h few = absurd (omega arith)
 
 pub digits-more : (n v d : ℕ) → v < 16 ^ n → d < 16 → v * 16 + d < 16 ^ (n + 1)
 digits-more n v d h k = rw add-one (omega arith)
+
+pub counted-most : (count gap : ℕ) → leastCounted count gap ≤ 3
+counted-most count gap =
+    pick-by (λ (n : ℕ). n ≤ 3) (eqb gap 0) (λ t. pick-by (λ (n : ℕ). n ≤ 3) (eqb count 8) (λ e. omega arith) (λ e. omega arith)) (λ t. omega arith)
 
 -- ── the answers ──
 inside-none : (end c : ℕ) (p : Gathered) (n v : ℕ) → hexOf c ≡ 16 → n ≡ 0 → inside end p n v c ≡ dead
@@ -57,3 +65,22 @@ module _ {end : ℕ} {s : List ℕ} {i : ℕ} {g : List ℕ} where
       (inside-follow end (gatheredOf x) n v (getD s i 0) (λ d. omega arith) some
       ∙ ap (λ (q : Gathered). follow end q (getD s i 0)) (sym (push-seen x sized few v)))
       f
+
+  -- no byte more: a digit where none has come, and what may follow the group
+  module _ {x : Partial} (sized : Sized x) (few : x .count < 8) (ends-here : length s ≤ i) {n v m : ℕ} (counted : m ≡ leastCounted (x .count + 1) (x .gap)) where
+    group-wants : {d : ℕ} → leastDigit n ≡ d → From end s i (digits (gatheredOf x) n v) (More (d + m)) g
+    group-wants {d} e =
+        let behind-it : m ≡ leastBehind (push (gatheredOf x) 0) =
+        counted ∙ sym (seen-least (pushed x 0) (push-sized x sized few 0)) ∙ ap leastBehind (push-seen x sized few 0)
+        in
+        wants (omega arith) ends-here
+
+    pub group-begins : n ≡ 0 → From end s i (digits (gatheredOf x) n v) (More (m + 1)) g
+    group-begins z =
+        subst (λ (j : ℕ). From end s i (digits (gatheredOf x) n v) (More j) g) (omega arith)
+        (group-wants (ap (λ (b : Bool). pick b 1 0) (eq-eqb n 0 z)))
+
+    pub group-goes-on : (n ≡ 0 → ⊥) → From end s i (digits (gatheredOf x) n v) (More m) g
+    group-goes-on some =
+        subst (λ (j : ℕ). From end s i (digits (gatheredOf x) n v) (More j) g) (omega arith)
+        (group-wants (ap (λ (b : Bool). pick b 1 0) (ne-eqb n 0 some)))

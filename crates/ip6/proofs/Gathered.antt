@@ -7,8 +7,11 @@ use native.Mathlib.Numerals.{add-one}
 use native.Mathlib.Omega.{arith}
 use lib.ListN.{length, take, drop, getD, getD-replicate, replicate, set, length-take, length-drop, length-append, length-set, drop-of-length-le}
 use lib.Seq.{drop-set-lt, drop-drop, take-suc-set, take-append-le, drop-append-le, getD-set-other, take-at, take-suc, getD-drop}
-use borrow.Author.Tests.{lt-ltb, le-ltb}
-use Rattle.ip6.specs.Machine.{plain, gapped, push, room}
+use lib.Dec.{eqb}
+use borrow.Author.Tests.{lt-ltb, le-ltb, ne-eqb}
+use Rattle.ip6.specs.Machine.{plain, gapped, push, room, leastBehind}
+use Rattle.colon_part.specs.Part.{leastBehind as leastCounted}
+use Rattle.exact.specs.Pick.{pick}
 use Rattle.ip6.specs.Partial.{Partial, sofar, Sized, seenAt, gatheredOf}
 use Rattle.ip6.proofs.Spread.{count-length}
 
@@ -36,6 +39,14 @@ module _ (x : Partial) (h : Sized x) where
 
   pub is-full : 8 ≤ x .count → room (gatheredOf x) ≡ false
   is-full n = full-at (x .gap) (x .count) held (count-length x h) (h .within) n
+
+  -- how few bytes could follow a group is told by the counts
+  least-at : (g n : ℕ) (l : List ℕ) → length l ≡ n → leastBehind (seenAt g l) ≡ leastCounted n g
+  least-at zero n l e = ap (λ (k : ℕ). pick (eqb k 8) 1 3) e
+  least-at (suc g) n l e = simp (ne-eqb (suc g) 0 (λ z. omega arith))
+
+  pub seen-least : leastBehind (gatheredOf x) ≡ leastCounted (x .count) (x .gap)
+  seen-least = least-at (x .gap) (x .count) held (count-length x h)
 
   pub none-seen : x .count ≡ 0 → gatheredOf x ≡ plain []
   none-seen n = let a = h .within in let e : x .gap ≡ 0 = omega arith in rw (e, n)

@@ -4,7 +4,7 @@ pub mod ScannedAddress
 pub mod Machine
 pub mod Steps
 pub mod Read
-pub mod Complete
+pub mod Leasts
 pub mod Walk
 pub mod Parser
 pub mod Partial

@@ -38,6 +38,27 @@ abbrev pub finish : Gathered → Move State (List ℕ)
 finish (plain l) = pick (eqb (length l) 8) (done l) dead
 finish (gapped l r) = done (filled l r)
 
+-- ── how few bytes could follow, with the end ──
+-- behind a group: the end, or "::" and the end
+abbrev pub leastBehind : Gathered → ℕ
+leastBehind (plain l) = pick (eqb (length l) 8) 1 3
+leastBehind (gapped l r) = 1
+
+-- in a group: a digit where none has come
+abbrev pub leastDigit : ℕ → ℕ
+leastDigit n = pick (eqb n 0) 1 0
+
+abbrev pub least : State → ℕ
+least start = 3
+least (digits s n v) = leastDigit n + leastBehind (push s 0)
+least (behind s) = leastBehind s
+least (colon s) = 2
+least (gap l) = 1
+
+-- m is what is asked behind the address
+abbrev pub leastAddress : ℕ → State → ℕ
+leastAddress m q = least q + m
+
 module _ (end : ℕ) where
   -- behind a group
   abbrev pub follow : Gathered → ℕ → Move State (List ℕ)

@@ -5,23 +5,24 @@ use Prim.Native.Nat.{ℕ}
 use native.Mathlib.Omega.{arith}
 use Rattle.exact.specs.Claim.{AllBytes}
 use Rattle.exact.specs.Ended.{Ended}
+use Rattle.exact.specs.Field.{flat}
 use Rattle.exact.specs.Machine.{leaf}
 use Rattle.exact.specs.Parser.{Parser, machine, recast, ended-bytes}
 use Rattle.hex.specs.Hex.{hexOf}
 use Rattle.ip6.specs.Address.{Address, Ending}
 use Rattle.ip6.specs.Bounds.{address-bounds, spelt-bytes}
-use Rattle.ip6.specs.Machine.{start, step}
+use Rattle.ip6.specs.Machine.{start, leastAddress, step}
 use Rattle.ip6.specs.Read.{Good, keeps, runs-address}
-use Rattle.ip6.specs.Complete.{completes}
+use Rattle.ip6.specs.Leasts.{leasts}
 use Rattle.ip6.specs.Walk.{address-runs}
 
 pub address-bytes : (f vs : List ℕ) → Address f vs → AllBytes f
 address-bytes f vs a = spelt-bytes f (address-bounds f vs a .spelt)
 
-abbrev pub ip6 : (k end : ℕ) → Ending end → Parser (List ℕ)
-ip6 k end e =
+abbrev pub ip6 : (k m end : ℕ) → Ending end → Parser (List ℕ) (flat m)
+ip6 k m end e =
     recast
-    (machine k Good (step end) (completes end e) (keeps end) start ([], refl)
+    (machine k Good (step end) (leastAddress m) (flat m) (leasts m end e) (keeps end) start ([], refl)
     (λ f vs r. ended-bytes Address end (e .byte) address-bytes f vs (runs-address end f vs r)))
     (leaf k (Ended Address end))
     (λ f vs. (runs-address end f vs, address-runs end e f vs))

@@ -5,6 +5,7 @@
 // and with it, and is 0 while it has not come.
 use colon_part::Part;
 use colon_part::colon_part;
+use colon_part::least_behind;
 use exact::Scan;
 use hex::hex_value;
 ghost use mathlib.Core.Path.{_≡_};
@@ -14,7 +15,7 @@ ghost use Rattle.exact.specs.Claim.{Claim};
 ghost use Rattle.exact.specs.Ended.{Ended};
 ghost use Rattle.exact.specs.Machine.{run};
 ghost use Rattle.ip6.specs.Address.{Address, Ending};
-ghost use Rattle.ip6.specs.Machine.{start, digits, behind, step};
+ghost use Rattle.ip6.specs.Machine.{start, digits, behind, leastAddress, step};
 ghost use Rattle.ip6.specs.ScannedAddress.{toldAddress, Unused};
 ghost use Rattle.ip6.specs.Partial.{Sized, sofar, gatheredOf, spread};
 ghost use Rattle.ip6.specs.Answer.{scanOf, From, Closed};
@@ -40,8 +41,8 @@ fn spread_out(groups: &mut [u16; 8], count: usize, gap: usize)
     }
 }
 
-// What the functions below answer: one of these numbers, and in place the length of an accepted address or the place of the byte that
-// rules it out. A `Scan` would come back through memory, at each of their calls. `group` and `colon` take the slice behind a reference:
+// What the functions below answer: one of these numbers, and in place the length of an accepted address, how few bytes could finish it, or
+// the place of the byte that rules it out. A `Scan` would come back through memory, at each of their calls. `group` and `colon` take the slice behind a reference:
 // a slice itself would be copied into the caller's memory at each call, and the call could be no jump.
 const ACCEPTED: u8 = 0;
 
@@ -105,6 +106,8 @@ fn group(
         n += 1;
         at += 1;
     }
+    let behind = least_behind(count + 1, gap);
+    *place = if n == 0 { behind + 1 } else { behind };
     MORE
 }
 
@@ -123,7 +126,10 @@ fn colon(
         (scanOf r (now (place .exit))) (now (groups .exit)) ⌝ }
 {
     match colon_part(*s, i, end, count, gap) {
-        Part::More => MORE,
+        Part::More(least) => {
+            *place = least;
+            MORE
+        }
         Part::Refused(dead) => {
             *place = dead;
             REFUSED
@@ -139,6 +145,7 @@ fn begun(s: &[u8], end: u8, groups: &mut [u16; 8], place: &mut usize) -> u8
     ensures { λ r. ⌜ From end (now (s .entry)) 0 start (scanOf r (now (place .exit))) (now (groups .exit)) ⌝ }
 {
     if s.len() == 0 {
+        *place = 3;
         return MORE;
     }
     if s[0] == b':' {
@@ -151,9 +158,9 @@ fn begun(s: &[u8], end: u8, groups: &mut [u16; 8], place: &mut usize) -> u8
 // An address that the byte end ends. A hex digit or a colon is no such byte: as end it ends an address right behind "::" only, and is part
 // of the address elsewhere.
 pub fn address(s: &[u8], end: u8) -> Scanned
-    ensures verdict { λ r. ⌜ ((k : ℕ) → toldAddress k r ≡ run k (step end) (now (s .entry)) start) ⌝ }
+    ensures verdict { λ r. ⌜ ((k m : ℕ) → toldAddress k m r ≡ run k (step end) (leastAddress m) (now (s .entry)) start) ⌝ }
     ensures unused { λ r. ⌜ Unused (r .scan) (r .groups) ⌝ }
-    ensures claim { λ r. ⌜ ((k : ℕ) → Ending end → Claim (Ended Address end) (λ u. k) (toldAddress k r) (now (s .entry))) ⌝ }
+    ensures claim { λ r. ⌜ ((k : ℕ) → Ending end → Claim (Ended Address end) (λ u. k) (toldAddress k 0 r) (now (s .entry))) ⌝ }
 {
     let mut groups = [0u16; 8];
     let mut place: usize = 0;
@@ -164,7 +171,7 @@ pub fn address(s: &[u8], end: u8) -> Scanned
     }
     let groups = [0; 8];
     if answer == MORE {
-        let scan = Scan::More;
+        let scan = Scan::More(place);
         return Scanned { scan, groups };
     }
     let scan = Scan::Refused(place);

@@ -20,7 +20,7 @@ fn from_tcp(s: &[u8], at: usize) -> Seen
     ensures { λ r. ⌜ Sees (now (s .entry)) (shift at (tcps address4 address6 .verdict (drop at (now (s .entry))))) r ⌝ }
 {
     match literal(&s[at..], b"TCP") {
-        Scan::More => more(),
+        Scan::More(least) => more(least + 13),
         Scan::Refused(place) => refused(Refusal::Word, at + place),
         Scan::Accepted(_, n) => from_family(s, at + n),
     }
@@ -31,7 +31,7 @@ fn from_unknown(s: &[u8], at: usize) -> Seen
     ensures { λ r. ⌜ Sees (now (s .entry)) (shift at (unknown .verdict (drop at (now (s .entry))))) r ⌝ }
 {
     match literal(&s[at..], b"UNKNOWN") {
-        Scan::More => more(),
+        Scan::More(least) => more(least + 2),
         Scan::Refused(place) => refused(Refusal::Word, at + place),
         Scan::Accepted(_, n) => from_unknown_end(s, at + n),
     }
@@ -42,7 +42,7 @@ fn from_word(s: &[u8], at: usize) -> Seen
     ensures { λ r. ⌜ Sees (now (s .entry)) (shift at (words address4 address6 .verdict (drop at (now (s .entry))))) r ⌝ }
 {
     if s.len() <= at {
-        return more();
+        return more(9);
     }
     if s[at] == b'U' {
         from_unknown(s, at)
@@ -56,7 +56,7 @@ pub fn line(s: &[u8]) -> Seen
     ensures { λ r. ⌜ Sees (now (s .entry)) (lineField .verdict (now (s .entry))) r ⌝ }
 {
     match literal(s, b"PROXY ") {
-        Scan::More => more(),
+        Scan::More(least) => more(least + 9),
         Scan::Refused(place) => refused(Refusal::Start, place),
         Scan::Accepted(_, n) => from_word(s, n),
     }

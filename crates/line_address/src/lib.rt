@@ -1,7 +1,7 @@
 // The addresses of a TCP line: IPv4 or IPv6 text that a space ends, as the bytes of the address. No public function has a `requires`.
 use exact::Scan;
 ghost use mathlib.Core.Path.{_≡_};
-ghost use Prim.Native.Nat.{_/_, _%_};
+ghost use Prim.Native.Nat.{ℕ, _/_, _%_};
 ghost use Rattle.header.specs.Line.{groupBytes};
 ghost use Rattle.fields.specs.Exactness.{address4 as fieldOf4, address6 as fieldOf6};
 ghost use Rattle.line_address.specs.Families.{toldBytes, Unused, width, field};
@@ -46,7 +46,7 @@ fn group_bytes(groups: [u16; 8]) -> [u8; 16]
 
 // The octets of an IPv4 address, in the first 4 of the bytes, with zeros behind them.
 fn address4(s: &[u8], bytes: &mut [u8; 16]) -> Scan
-    ensures verdict { λ r. ⌜ toldBytes 4 r (now (bytes .exit)) ≡ fieldOf4 .verdict (now (s .entry)) ⌝ }
+    ensures verdict { λ r. ⌜ ((m : ℕ) → toldBytes 4 m r (now (bytes .exit)) ≡ fieldOf4 m .verdict (now (s .entry))) ⌝ }
     ensures unused { λ r. ⌜ Unused 4 r (now (bytes .exit)) ⌝ }
 {
     let found = ip4::ip4(s, b' ');
@@ -62,7 +62,7 @@ fn address4(s: &[u8], bytes: &mut [u8; 16]) -> Scan
 }
 
 fn address6(s: &[u8], bytes: &mut [u8; 16]) -> Scan
-    ensures verdict { λ r. ⌜ toldBytes 16 r (now (bytes .exit)) ≡ fieldOf6 .verdict (now (s .entry)) ⌝ }
+    ensures verdict { λ r. ⌜ ((m : ℕ) → toldBytes 16 m r (now (bytes .exit)) ≡ fieldOf6 m .verdict (now (s .entry))) ⌝ }
     ensures unused { λ r. ⌜ Unused 16 r (now (bytes .exit)) ⌝ }
 {
     let found = ip6::address(s, b' ');
@@ -75,7 +75,7 @@ fn address6(s: &[u8], bytes: &mut [u8; 16]) -> Scan
 // The address of a TCP6 line if six, else of a TCP4 line, at the front of the bytes; what it leaves of them, or all where no address is accepted,
 // is zero.
 pub fn address(s: &[u8], six: bool, bytes: &mut [u8; 16]) -> Scan
-    ensures verdict { λ r. ⌜ toldBytes (width six) r (now (bytes .exit)) ≡ field six .verdict (now (s .entry)) ⌝ }
+    ensures verdict { λ r. ⌜ ((m : ℕ) → toldBytes (width six) m r (now (bytes .exit)) ≡ field six m .verdict (now (s .entry))) ⌝ }
     ensures unused { λ r. ⌜ Unused (width six) r (now (bytes .exit)) ⌝ }
 {
     if six {

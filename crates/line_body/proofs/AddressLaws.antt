@@ -14,10 +14,11 @@ use Rattle.answer.specs.Sight.{callerRecord, callerOf}
 use Rattle.line_address.specs.Families.{tcpKind, toldBytes, padded, Unused, width, field}
 
 -- what a scan of the address from `at` on found, as a verdict on it
-pub said-found : (six : Bool) (s : List ℕ) (at : ℕ) (bytes : List ℕ) {r x : Scan} → r ≡ x
-    → toldBytes (width six) r bytes ≡ field six .verdict (take (length s - at) (drop at s)) → toldBytes (width six) x bytes ≡ field six .verdict (drop at s)
-said-found six s at bytes e h =
-    ap (λ (y : Scan). toldBytes (width six) y bytes) (sym e) ∙ h ∙ ap (λ (t : List ℕ). field six .verdict t) (tail-all at s)
+pub said-found : (six : Bool) (m : ℕ) (s : List ℕ) (at : ℕ) (bytes : List ℕ) {r x : Scan} → r ≡ x
+    → toldBytes (width six) m r bytes ≡ field six m .verdict (take (length s - at) (drop at s))
+    → toldBytes (width six) m x bytes ≡ field six m .verdict (drop at s)
+said-found six m s at bytes e h =
+    ap (λ (y : Scan). toldBytes (width six) m y bytes) (sym e) ∙ h ∙ ap (λ (t : List ℕ). field six m .verdict t) (tail-all at s)
 
 -- an accepted address has zeros behind it
 pub found-padded : (n : ℕ) (bytes : List ℕ) {r : Scan} {v size : ℕ} → r ≡ Accepted v size → Unused n r bytes → bytes ≡ padded (take n bytes)

@@ -18,7 +18,7 @@ ghost use Rattle.exact.specs.Field.{shift};
 ghost use Rattle.fields.specs.LineFields.{lined, lineFeed, fromDestinationPort, fromSourcePort, fromDestination, fromSource, unknownEnd, families, fromRest};
 ghost use Rattle.fields.specs.Exactness.{address4, address6};
 ghost use Rattle.answer.specs.Sight.{callerRecord, callerOf, Sees};
-ghost use Rattle.line_address.specs.Families.{tcpKind, width, field, padded};
+ghost use Rattle.line_address.specs.Families.{tcpKind, width, field, shortest, padded};
 ghost use Rattle.line_body.specs.Stages.{fromSpace, isFamily};
 
 // TCP6 if six, else TCP4.
@@ -32,13 +32,20 @@ fn tcp_kind(six: bool) -> Kind
     }
 }
 
+// How many bytes the shortest address has, with the space that ends it.
+fn shortest_address(six: bool) -> usize
+    ensures { λ r. ⌜ r ≡ shortest six ⌝ }
+{
+    if six { 3 } else { 8 }
+}
+
 // The LF that ends the line. The caller is that of its own record: it has zeros behind its addresses.
 fn line_feed(s: &[u8], at: usize, caller: Caller) -> Seen
     requires { ⌜ callerOf (callerRecord caller) ≡ caller ⌝ }
     ensures { λ r. ⌜ Sees (now (s .entry)) (shift at (lineFeed (lined (callerRecord caller)) .verdict (drop at (now (s .entry))))) r ⌝ }
 {
     if s.len() <= at {
-        return more();
+        return more(1);
     }
     if s[at] == b'\n' {
         Seen {
@@ -65,7 +72,7 @@ fn from_destination_port(
     ensures { λ r. ⌜ Sees (now (s .entry)) (shift at (fromDestinationPort (tcpKind six) (take (width six) from) (take (width six) to) p .verdict (drop at (now (s .entry))))) r ⌝ }
 {
     match decimal::decimal(&s[at..], 65535, b'\r') {
-        Scan::More => more(),
+        Scan::More(least) => more(least + 1),
         Scan::Refused(place) => refused(Refusal::Port, at + place),
         Scan::Accepted(q, n) => {
             let caller = Caller {
@@ -85,7 +92,7 @@ fn from_source_port(s: &[u8], at: usize, six: bool, from: [u8; 16], to: [u8; 16]
     ensures { λ r. ⌜ Sees (now (s .entry)) (shift at (fromSourcePort (tcpKind six) (take (width six) from) (take (width six) to) .verdict (drop at (now (s .entry))))) r ⌝ }
 {
     match decimal::decimal(&s[at..], 65535, b' ') {
-        Scan::More => more(),
+        Scan::More(least) => more(least + 3),
         Scan::Refused(place) => refused(Refusal::Port, at + place),
         Scan::Accepted(p, n) => from_destination_port(s, at + n, six, from, to, p as u16),
     }
@@ -97,7 +104,7 @@ fn from_destination(s: &[u8], at: usize, six: bool, from: [u8; 16]) -> Seen
 {
     let mut to = [0u8; 16];
     match address(&s[at..], six, &mut to) {
-        Scan::More => more(),
+        Scan::More(least) => more(least + 5),
         Scan::Refused(place) => refused(Refusal::Address, at + place),
         Scan::Accepted(_, n) => from_source_port(s, at + n, six, from, to),
     }
@@ -109,7 +116,7 @@ fn from_source(s: &[u8], at: usize, six: bool) -> Seen
 {
     let mut from = [0u8; 16];
     match address(&s[at..], six, &mut from) {
-        Scan::More => more(),
+        Scan::More(least) => more(least + shortest_address(six) + 5),
         Scan::Refused(place) => refused(Refusal::Address, at + place),
         Scan::Accepted(_, n) => from_destination(s, at + n, six, from),
     }
@@ -120,7 +127,7 @@ fn from_space(s: &[u8], at: usize, six: bool) -> Seen
     ensures { λ r. ⌜ Sees (now (s .entry)) (shift at (fromSpace six .verdict (drop at (now (s .entry))))) r ⌝ }
 {
     if s.len() <= at {
-        return more();
+        return more(2 * shortest_address(six) + 6);
     }
     if s[at] == b' ' {
         from_source(s, at + 1, six)
@@ -140,7 +147,7 @@ pub fn from_family(s: &[u8], at: usize) -> Seen
     ensures { λ r. ⌜ Sees (now (s .entry)) (shift at (families address4 address6 .verdict (drop at (now (s .entry))))) r ⌝ }
 {
     if s.len() <= at {
-        return more();
+        return more(13);
     }
     let c = s[at];
     if !is_family(c) {
@@ -155,7 +162,7 @@ fn from_rest(s: &[u8], at: usize) -> Seen
     ensures { λ r. ⌜ Sees (now (s .entry)) (shift at (fromRest .verdict (drop at (now (s .entry))))) r ⌝ }
 {
     match line_end::line_end(&s[at..], 93) {
-        Scan::More => more(),
+        Scan::More(least) => more(least),
         Scan::Refused(place) => refused(Refusal::End, at + place),
         Scan::Accepted(_, n) => Seen {
             verdict: Verdict::Accepted {
@@ -172,7 +179,7 @@ pub fn from_unknown_end(s: &[u8], at: usize) -> Seen
     ensures { λ r. ⌜ Sees (now (s .entry)) (shift at (unknownEnd .verdict (drop at (now (s .entry))))) r ⌝ }
 {
     if s.len() <= at {
-        return more();
+        return more(2);
     }
     let c = s[at];
     if c == b'\r' {

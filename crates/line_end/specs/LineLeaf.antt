@@ -3,20 +3,20 @@ use mathlib.Core.Path.{_≡_, refl, sym, ap, _∙_, subst}
 use mathlib.Core.Bool.{Bool, true, false}
 use mathlib.Core.List.{List, [], _∷_, _++_}
 use mathlib.Core.Logic.{_⊎_, inl, inr, ⊎-elim, _↔_}
-use Prim.Native.Nat.{ℕ, _+_, _-_, _≤_, _<_}
+use Prim.Native.Nat.{ℕ, suc, _+_, _-_, _≤_, _<_}
 use native.Mathlib.Omega.{arith}
 use lib.Dec.{eqb, leb, ltb}
 use lib.ListN.{length, length-append}
 use borrow.Author.Tests.{eqb-true, eqb-false, eq-eqb, ne-eqb, leb-true, leb-false, le-leb, lt-leb, ltb-true, ltb-false, lt-ltb}
 use Rattle.exact.specs.Claim.{AllBytes}
-use Rattle.exact.specs.Field.{Exact}
-use Rattle.exact.specs.MachineLaws.{machine-exact, Sound}
+use Rattle.exact.specs.Field.{Least, flat, Exact}
+use Rattle.exact.specs.MachineLaws.{machine-exact, least-at, Sound, Attains, NoLess, Leasts}
 use Rattle.exact.specs.Machine.{leaf, go, done, dead}
-use Rattle.exact.specs.Pick.{pick-by}
+use Rattle.exact.specs.Pick.{pick, pick-by}
 use Rattle.exact.specs.Parser.{Parser, bytes-append}
 use Rattle.exact.specs.Valueless.{Valueless}
 use Rattle.line_end.specs.Line.{NoEnd, FirstEnd}
-use Rattle.line_end.specs.LineVerdict.{Line, line, least, pass, stepLine, lineVerdict}
+use Rattle.line_end.specs.LineVerdict.{Line, line, least, pass, stepLine, leastLine, lineVerdict}
 
 -- ── the first byte of a line ──
 abbrev pub LineEnd : ℕ → List ℕ → ℕ → Type 0
@@ -165,28 +165,55 @@ solid-line : (q : Line) → Ok q → (a : ℕ) → Rest q [] a → ⊥
 solid-line (line false left) ok a l = let h = long left [] (l .0) in omega arith
 solid-line (line true left) ok a l = let h = long (left + 1) (13 ∷ []) (l .0) in omega arith
 
-opens-line : (q : Line) → Ok q → (f : List ℕ) × (a : ℕ) × Rest q f a
-opens-line (line false left) ok = (13 ∷ 10 ∷ [], 0, (ended left ok, refl))
-opens-line (line true left) ok = (10 ∷ [], 0, (ended (left + 1) (omega arith), refl))
+-- ── the fewest bytes that end it ──
+module _ (m : ℕ) where
+  pass-no-less : (b : Bool) (left c j : ℕ) → j ≤ suc (pick b 1 2 + m) → NoLess (leastLine m) (flat m) j (pass b left c)
+  pass-no-less b left c j h =
+      let P = NoLess (leastLine m) (flat m) j in
+      pick-by P (leb (least b) left) (λ t. pick-by P (ltb c 256) (λ s. h) (λ s. tt)) (λ t. tt)
+
+  by-cr : (b : Bool) (j : ℕ) → j ≤ 2 + m → j ≤ suc (pick b 1 2 + m)
+  by-cr true j h = omega arith
+  by-cr false j h = omega arith
+
+  no-less-line : (q : Line) (c : ℕ) → Ok q → NoLess (leastLine m) (flat m) (leastLine m q) (stepLine q c)
+  no-less-line (line true left) c ok =
+      pick-by (NoLess (leastLine m) (flat m) (1 + m)) (eqb c 10) (λ t. omega arith)
+      (λ t. pass-no-less (eqb c 13) left c (1 + m) (by-cr (eqb c 13) (1 + m) (omega arith)))
+  no-less-line (line false left) c ok = pass-no-less (eqb c 13) left c (2 + m) (by-cr (eqb c 13) (2 + m) (omega arith))
+
+  byte-line : (q : Line) → Ok q → ℕ
+  byte-line (line true left) ok = 10
+  byte-line (line false left) ok = 13
+
+  attains-line : (q : Line) (ok : Ok q) → Attains (leastLine m) (flat m) (leastLine m q) (stepLine q (byte-line q ok))
+  unfolding byte-line
+  attains-line (line true left) ok = omega arith
+  attains-line (line false left) ok = rw (le-leb 2 left ok) (omega arith)
+
+  leasts-line : Leasts Ok stepLine (leastLine m) (flat m)
+  leasts-line = record { byte = byte-line; attains = attains-line; no-less = no-less-line }
 
 -- ── the parser ──
-pub line-exact : (k limit : ℕ) → 2 ≤ limit → (s : List ℕ) → Exact (leaf k (LineEnd limit)) (lineVerdict k limit s) s
-line-exact k limit h s = machine-exact k Rest Ok stepLine opens-line solid-line sound-line s (line false limit) h
+module _ (k m limit : ℕ) (room : 2 ≤ limit) where
+  pub line-exact : (s : List ℕ) → Exact (leaf k (LineEnd limit)) (flat m) (lineVerdict k m limit s) s
+  line-exact s = machine-exact k Rest Ok stepLine (leastLine m) (flat m) (leasts-line m) solid-line sound-line s (line false limit) room
 
-pub line-opens : (limit : ℕ) → 2 ≤ limit → LineEnd limit (13 ∷ 10 ∷ []) 0
-line-opens limit h = (ended limit h, refl)
+  pub line-least : Least (leaf k (LineEnd limit)) (flat m) (2 + m) []
+  line-least = least-at k Rest Ok stepLine (leastLine m) (flat m) (leasts-line m) solid-line sound-line (line false limit) room
 
 pub line-bytes : (limit : ℕ) (f : List ℕ) (a : ℕ) → LineEnd limit f a → AllBytes f
 line-bytes limit f a l =
     subst AllBytes (sym (l .0 .split)) (bytes-append (l .0 .body) (13 ∷ 10 ∷ []) (l .0 .bytes) (omega arith, (omega arith, tt)))
 
-abbrev pub lineEnd : (k limit : ℕ) → 2 ≤ limit → Parser ℕ
-lineEnd k limit h =
+abbrev pub lineEnd : (k m limit : ℕ) → 2 ≤ limit → Parser ℕ (flat m)
+lineEnd k m limit room =
     record {
       field = leaf k (LineEnd limit);
-      verdict = lineVerdict k limit;
-      exact = line-exact k limit h;
-      opens = record { tail = 13 ∷ 10 ∷ []; value = 0; whole = line-opens limit h };
+      verdict = lineVerdict k m limit;
+      exact = line-exact k m limit room;
+      least = 2 + m;
+      opens = line-least k m limit room;
       bytes = line-bytes limit;
     }
 

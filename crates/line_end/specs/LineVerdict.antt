@@ -1,7 +1,7 @@
 -- The verdict on an UNKNOWN line's end, byte by byte.
 use mathlib.Core.Bool.{Bool, true, false}
 use mathlib.Core.List.{List}
-use Prim.Native.Nat.{ℕ, _-_}
+use Prim.Native.Nat.{ℕ, _+_, _-_}
 use lib.Dec.{eqb, leb, ltb}
 use Rattle.exact.specs.Claim.{Verdict}
 use Rattle.exact.specs.Machine.{Move, go, done, dead, run}
@@ -23,5 +23,10 @@ abbrev pub stepLine : Line → ℕ → Move Line ℕ
 stepLine (line true left) c = pick (eqb c 10) (done 0) (pass (eqb c 13) left c)
 stepLine (line false left) c = pass (eqb c 13) left c
 
-abbrev pub lineVerdict : (k limit : ℕ) → List ℕ → Verdict ℕ
-lineVerdict k limit s = run k stepLine s (line false limit)
+-- LF behind CR, else CR and LF, and then m
+abbrev pub leastLine : ℕ → Line → ℕ
+leastLine m (line is-cr left) = pick is-cr 1 2 + m
+
+-- m is what is asked behind the line
+abbrev pub lineVerdict : (k m limit : ℕ) → List ℕ → Verdict ℕ
+lineVerdict k m limit s = run k stepLine (leastLine m) s (line false limit)

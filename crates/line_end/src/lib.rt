@@ -11,14 +11,14 @@ ghost use Rattle.line_end.specs.LineVerdict.{lineVerdict};
 // The end of a line of at most limit bytes: the first CR followed by LF. A byte behind which no end fits is refused. No end fits into 0 or 1
 // bytes: then the first byte is refused, and before it the answer is More.
 pub fn line_end(s: &[u8], limit: usize) -> Scan
-    ensures verdict { λ r. ⌜ ((k : ℕ) → told k r ≡ lineVerdict k limit (now (s .entry))) ⌝ }
-    ensures claim { λ r. ⌜ ((k : ℕ) → 2 ≤ limit → Claim (Valueless (FirstEnd limit)) (λ u. k) (told k r) (now (s .entry))) ⌝ }
+    ensures verdict { λ r. ⌜ ((k m : ℕ) → told k m r ≡ lineVerdict k m limit (now (s .entry))) ⌝ }
+    ensures claim { λ r. ⌜ ((k : ℕ) → 2 ≤ limit → Claim (Valueless (FirstEnd limit)) (λ u. k) (told k 0 r) (now (s .entry))) ⌝ }
 {
     let mut i: usize = 0;
     let mut cr = false;
     let end = loop {
         if s.len() <= i {
-            return Scan::More;
+            return Scan::More(if cr { 1 } else { 2 });
         }
         let c = s[i];
         if cr {

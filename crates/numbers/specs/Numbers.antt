@@ -54,5 +54,5 @@ toldOf (Accepted n v) kind size =
       start = n - (areaEnd (Accepted n v) kind size - areaStart (Accepted n v) kind size);
       length = areaEnd (Accepted n v) kind size - areaStart (Accepted n v) kind size;
     }
-toldOf More kind size = record { answer = 255; first = 0; second = 0; start = 0; length = 0 }
+toldOf (More n) kind size = record { answer = 255; first = n; second = 0; start = 0; length = 0 }
 toldOf (Refused k p) kind size = record { answer = numberOf k; first = p; second = 0; start = 0; length = 0 }

@@ -53,9 +53,9 @@ pub fn tell(verdict: Verdict, kind: Kind, size: usize) -> Told
             start: (length - area) as u64,
             length: area as u64,
         },
-        Verdict::More => Told {
+        Verdict::More { least } => Told {
             answer: 255,
-            first: 0,
+            first: least as u64,
             second: 0,
             start: 0,
             length: 0,

@@ -31,7 +31,7 @@ use Rattle.read_interface.specs.ReadInterface.{answerNumber, numbersOf, 
 -- ── the record ──
 spoken-by : (s : List ℕ) (w : Verdict) (r : Reading) (v : Claim.Verdict Header) → toldVerdict s w r ≡ v → bareUnless w r → spokenRecord v ≡ r .record
 spoken-by s (Accepted n x) r v e u = ap spokenRecord (sym e)
-spoken-by s More r v e u = ap spokenRecord (sym e) ∙ sym u
+spoken-by s (More n) r v e u = ap spokenRecord (sym e) ∙ sym u
 spoken-by s (Refused k p) r v e u = ap spokenRecord (sym e) ∙ sym u
 
 spoken : {s : List ℕ} {v : Claim.Verdict Header} {r : Reading} → Answers s v r → spokenRecord v ≡ r .record
@@ -57,7 +57,7 @@ tells-by s (Accepted n x) r v e = (
   ap answerNumber e,
   ap (λ (m : ℕ). n ∷ x ∷ (n - m) ∷ m ∷ []) (sym (area-length (Accepted n x) (r .record .kind) s)) ∙ ap numbersOf e,
 )
-tells-by s More r v e = (ap answerNumber e, ap numbersOf e)
+tells-by s (More n) r v e = (ap answerNumber e, ap numbersOf e)
 tells-by s (Refused k p) r v e = (ap answerNumber e, ap numbersOf e)
 
 -- the kind of what is seen, wherever its addresses stand

@@ -20,19 +20,19 @@ use Rattle.connection.specs.Connection.{connectionSize, connectionBytes}
 -- "Numbered answers": the refusal's number; 0 is accepted, 255 is more
 abbrev pub answerNumber : Claim.Verdict Header → ℕ
 answerNumber (accepted h n) = 0
-answerNumber more = 255
+answerNumber (more n) = 255
 answerNumber (refused k p) = k
 
--- the header length or the place, the version, and where the TLV area starts and its length: it is the header's last bytes
+-- the header length, how few further bytes could make a whole header (document 02, K10), or the place; the version, and where the TLV area starts and its length: it is the header's last bytes
 abbrev pub numbersOf : Claim.Verdict Header → List ℕ
 numbersOf (accepted h n) = n ∷ h .version ∷ (n - length (h .area)) ∷ length (h .area) ∷ []
-numbersOf more = 0 ∷ 0 ∷ 0 ∷ 0 ∷ []
+numbersOf (more n) = n ∷ 0 ∷ 0 ∷ 0 ∷ []
 numbersOf (refused k p) = p ∷ 0 ∷ 0 ∷ 0 ∷ []
 
 -- the record of an accepted header; unspecified where nothing is accepted
 abbrev pub spokenRecord : Claim.Verdict Header → Record
 spokenRecord (accepted h n) = h .«record»
-spokenRecord more = bare Unspecified
+spokenRecord (more n) = bare Unspecified
 spokenRecord (refused k p) = bare Unspecified
 
 -- "the output is shorter than what must be written": room for the numbers and the connection

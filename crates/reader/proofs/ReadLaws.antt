@@ -22,7 +22,7 @@ reads-as {s} a e =
     let here = sees-as a e in
     (record { judged = subst (λ (v : Verdict Header). Judges v s) (sym (here .answers .told)) (judges s); answers = here .answers }, here .caller)
 
-pub none-yet : (s : List ℕ) → length s ≡ 0 → more ≡ verdict s
+pub none-yet : (s : List ℕ) → length s ≡ 0 → more 15 ≡ verdict s
 none-yet [] e = refl
 none-yet (c ∷ s) e = absurd (omega arith)
 

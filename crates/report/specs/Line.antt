@@ -16,7 +16,7 @@ use Rattle.draft.specs.Numeral.{numeral, decimalText}
 -- "one line ending in LF: `more`, `refused 3 at 13`, or `accepted 47 ip4-stream`"
 abbrev pub lineOf : Verdict → Kind → List ℕ
 lineOf (Accepted length version) kind = ascii "accepted " ++ decimalText length ++ ascii " " ++ kindWord kind ++ ascii "\n"
-lineOf More kind = ascii "more\n"
+lineOf (More n) kind = ascii "more\n"
 lineOf (Refused refusal place) kind = ascii "refused " ++ decimalText (numberOf refusal) ++ ascii " at " ++ decimalText place ++ ascii "\n"
 
 abbrev pub answerLine : Reading → List ℕ

@@ -48,7 +48,7 @@ pub fn answer_line(reading: Reading) -> Draft
             let counted = push_decimal(push_word(empty(), b"accepted "), length as u64);
             push(push_kind(push(counted, b' '), kind), b'\n')
         }
-        Verdict::More => push_word(empty(), b"more\n"),
+        Verdict::More { least: _ } => push_word(empty(), b"more\n"),
         Verdict::Refused { refusal, place } => {
             let number = answer::refusal_number(refusal) as u64;
             let place = place as u64;

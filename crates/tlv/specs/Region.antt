@@ -5,21 +5,21 @@ use mathlib.Core.List.{List, [], _∷_}
 use mathlib.Core.Logic.{inl, inr, ⊎-elim, _↔_}
 use Prim.Native.Nat.{ℕ, zero, suc, _+_, _*_, _-_, _≤_, _<_}
 use native.Mathlib.Omega.{arith}
-use borrow.Author.Tests.{ltb-true, ltb-false, leb-true, leb-false, eqb-true, eqb-false, le-leb}
+use borrow.Author.Tests.{ltb-true, ltb-false, lt-ltb, leb-true, leb-false, eqb-true, eqb-false, le-leb}
 use lib.Dec.{ltb, leb, eqb}
 use lib.ListN.{length}
-use Rattle.exact.specs.Field.{Opens, Exact}
-use Rattle.exact.specs.MachineLaws.{machine-exact, Sound}
-use Rattle.exact.specs.Machine.{leaf, go, run}
+use Rattle.exact.specs.Field.{Least, flat, Exact}
+use Rattle.exact.specs.MachineLaws.{machine-exact, Sound, Attains, NoLess, Leasts}
+use Rattle.exact.specs.Machine.{leaf, Move, go, run}
 use Rattle.exact.specs.Parser.{Parser}
 use Rattle.exact.specs.Pick.{pick, pick-by}
 use Rattle.exact.specs.Valueless.{Valueless}
 use Rattle.exact.specs.Network.{number}
 use Rattle.tlv.specs.Tlv.{Filled}
 use Rattle.tlv.specs.Laws.{area-bytes}
-use Rattle.tlv.specs.Room.{Fillable, Good, Behind, head-open, head-shut, retype, high-byte, good-leaves, behind-fill}
-use Rattle.tlv.specs.Rules.{fill-rule, low-rule, high-rule}
-use Rattle.tlv.specs.RegionVerdict.{Due, typeByte, highByte, lowByte, valueByte, enter, good, stepByte, step, judge}
+use Rattle.tlv.specs.Room.{Fillable, Good, Behind, head-open, head-shut, retype, high-byte, good-leaves, some-low}
+use Rattle.tlv.specs.Rules.{fill-rule, low-rule}
+use Rattle.tlv.specs.RegionVerdict.{Due, typeByte, highByte, lowByte, valueByte, enter, good, stepByte, step, leastRegion, judge}
 
 -- what may follow in a state
 abbrev Follows : Due → List ℕ → Type 0
@@ -42,16 +42,6 @@ solid (typeByte n) ok a l = let e = l .0 .0 in omega arith
 solid (highByte room) ok a l = let e = l .0 .0 in omega arith
 solid (lowByte h room) ok a l = let e = l .0 .0 in omega arith
 solid (valueByte v n) ok a l = l .0
-
-opens : (q : Due) → Ok q → (f : List ℕ) × (a : ℕ) × Lang q f a
-opens (typeByte n) ok = let c = fill-rule n .1 (inr ok) in (c .0, 0, (c .1, refl))
-opens (highByte room) ok =
-    let c = high-rule 0 0 room (omega arith) (omega arith) .1 (omega arith) in
-    (0 ∷ c .0, 0, (c .1, refl))
-opens (lowByte h room) ok =
-    let c = high-rule 0 h room (omega arith) (ok .0) .1 (ok .1) in
-    (c .0, 0, (c .1, refl))
-opens (valueByte v n) ok = let c = behind-fill (suc v) n ok in (c .0, 0, (c .1, refl))
 
 -- ── the tests ──
 good-by : (size room : ℕ) (b : Bool) → eqb size room ≡ b → (pick b true (leb (size + 3) room) ≡ true) ↔ Good size room
@@ -122,28 +112,87 @@ step-sound : (q : Due) (c : ℕ) → Ok q → Sound Lang Ok q c (step q c)
 step-sound q c ok =
     pick-by (Sound Lang Ok q c) (ltb c 256) (λ t. byte-sound q c (ltb-true c 256 t) ok) (λ t. no-byte q c (ltb-false c 256 t))
 
+-- ── what is left is the least: a step takes its byte off it, or is dead ──
+module _ (m : ℕ) where
+  abbrev Takes : ℕ → Move Due ℕ → Type 0
+  Takes = Attains (leastRegion m) (flat m)
+
+  abbrev NoFewer : ℕ → Move Due ℕ → Type 0
+  NoFewer = NoLess (leastRegion m) (flat m)
+
+  enter-takes : (v n j : ℕ) → j ≡ suc (v + n + m) → Takes j (enter v n) × NoFewer j (enter v n)
+  enter-takes zero zero j e = omega arith
+  enter-takes zero (suc n) j e = omega arith
+  enter-takes (suc v) n j e = omega arith
+
+  low-takes : (h room c : ℕ) → Good (number h c) room
+      → Takes (1 + room + m) (enter (number h c) (room - number h c)) × NoFewer (1 + room + m) (enter (number h c) (room - number h c))
+  low-takes h room c g =
+      let within = good-leaves (number h c) room g .0 in
+      enter-takes (number h c) (room - number h c) (1 + room + m) (omega arith)
+
+  no-less-byte : (q : Due) (c : ℕ) → Ok q → NoFewer (leastRegion m q) (stepByte q c)
+  no-less-byte (typeByte n) c ok = pick-by (NoFewer (n + m)) (leb 3 n) (λ t. omega arith) (λ t. tt)
+  no-less-byte (highByte room) c ok = pick-by (NoFewer (2 + room + m)) (leb (256 * c) room) (λ t. omega arith) (λ t. tt)
+  no-less-byte (lowByte h room) c ok =
+      pick-by (NoFewer (1 + room + m)) (good (number h c) room) (λ t. low-takes h room c (good-true _ _ .0 t) .1) (λ t. tt)
+  no-less-byte (valueByte v n) c ok = enter-takes v n (1 + v + n + m) (omega arith) .1
+
+  byte-due : (q : Due) → Ok q → ℕ
+  byte-due (typeByte n) ok = 0
+  byte-due (highByte room) ok = 0
+  byte-due (lowByte h room) ok = some-low h room (ok .1) .0
+  byte-due (valueByte v n) ok = 0
+
+  attains-due : (q : Due) (ok : Ok q) → Takes (leastRegion m q) (step q (byte-due q ok))
+  unfolding byte-due
+  attains-due (typeByte n) ok = rw (le-leb 3 n ok) (omega arith)
+  attains-due (highByte room) ok = rw (le-leb (256 * 0) room (omega arith)) (omega arith)
+  attains-due (lowByte h room) ok =
+      let l = some-low h room (ok .1) in
+      rw (lt-ltb (l .0) 256 (l .1), good-true _ _ .1 (l .2)) (low-takes h room (l .0) (l .2) .0)
+  attains-due (valueByte v n) ok = enter-takes v n (1 + v + n + m) (omega arith) .0
+
+  leasts : Leasts Ok step (leastRegion m) (flat m)
+  leasts =
+      record {
+        byte = byte-due;
+        attains = attains-due;
+        no-less = λ q c ok. pick-by (NoFewer (leastRegion m q)) (ltb c 256) (λ t. no-less-byte q c ok) (λ t. tt);
+      }
+
 -- ── the parser ──
 abbrev pub Region : ℕ → List ℕ → ℕ → Type 0
 Region n = Valueless (Filled n)
 
-pub region-opens : (k n : ℕ) → Fillable n → Opens (leaf k (Region n)) []
-region-opens k n ok = let c = fill-rule n .1 ok in record { tail = c .0; value = 0; whole = (c .1, refl) }
+-- TLVs that fill n bytes are n bytes, also where n is 0
+pub region-least : (k m n : ℕ) → Fillable n → Least (leaf k (Region n)) (flat m) (n + m) []
+region-least k m n ok =
+    let c = fill-rule n .1 ok in
+    record {
+      tail = c .0;
+      value = 0;
+      whole = (c .1, refl);
+      size = let e = c .1 .0 in omega arith;
+      below = λ t a l. let e = l .0 .0 in omega arith;
+    }
 
-pub region-exact : (k n : ℕ) → 3 ≤ n → (s : List ℕ) → Exact (leaf k (Region n)) (run k step s (typeByte n)) s
-region-exact k n ok s = machine-exact k Lang Ok step opens solid step-sound s (typeByte n) ok
+pub region-exact : (k m n : ℕ) → 3 ≤ n → (s : List ℕ) → Exact (leaf k (Region n)) (flat m) (run k step (leastRegion m) s (typeByte n)) s
+region-exact k m n ok s = machine-exact k Lang Ok step (leastRegion m) (flat m) (leasts m) solid step-sound s (typeByte n) ok
 
-abbrev pub region : (k n : ℕ) → 3 ≤ n → Parser ℕ
-region k n ok =
+abbrev pub region : (k m n : ℕ) → 3 ≤ n → Parser ℕ (flat m)
+region k m n ok =
     record {
       field = leaf k (Region n);
-      verdict = λ s. run k step s (typeByte n);
-      exact = region-exact k n ok;
-      opens = region-opens k n (inr ok);
+      verdict = λ s. run k step (leastRegion m) s (typeByte n);
+      exact = region-exact k m n ok;
+      least = n + m;
+      opens = region-least k m n (inr ok);
       bytes = λ f a l. area-bytes f (l .0 .1);
     }
 
-pub judge-exact : (k n : ℕ) → Fillable n → (s : List ℕ) → Exact (leaf k (Region n)) (judge k n s) s
-judge-exact k zero ok s =
+pub judge-exact : (k m n : ℕ) → Fillable n → (s : List ℕ) → Exact (leaf k (Region n)) (flat m) (judge k m n s) s
+judge-exact k m zero ok s =
     record {
       front = [];
       rest = s;
@@ -152,4 +201,4 @@ judge-exact k zero ok s =
       whole = ((refl, ([], (refl, tt))), refl);
       only = λ x y g b e l. (no-bytes g (l .0 .0), l .1);
     }
-judge-exact k (suc n) ok s = region-exact k (suc n) (some-bytes n ok) s
+judge-exact k m (suc n) ok s = region-exact k m (suc n) (some-bytes n ok) s

@@ -37,7 +37,18 @@ stepByte (valueByte v n) c = enter v n
 abbrev pub step : Due → ℕ → Move Due ℕ
 step q c = pick (ltb c 256) (stepByte q c) dead
 
--- the verdict on n bytes; none are there at once
-abbrev pub judge : ℕ → ℕ → List ℕ → Verdict ℕ
-judge k zero s = accepted 0 0
-judge k (suc n) s = run k step s (typeByte (suc n))
+-- what is left of the n bytes
+abbrev pub left : Due → ℕ
+left (typeByte n) = n
+left (highByte room) = 2 + room
+left (lowByte h room) = 1 + room
+left (valueByte v n) = 1 + v + n
+
+-- all of it, and then m
+abbrev pub leastRegion : ℕ → Due → ℕ
+leastRegion m q = left q + m
+
+-- the verdict on n bytes; none are there at once. m is what is asked behind them
+abbrev pub judge : (k m n : ℕ) → List ℕ → Verdict ℕ
+judge k m zero s = accepted 0 0
+judge k m (suc n) s = run k step (leastRegion m) s (typeByte (suc n))

@@ -13,12 +13,12 @@ use Rattle.tlv.specs.Whole.{Accepted, judged}
 
 accepts : Verdict ℕ → Bool
 accepts (accepted a n) = true
-accepts more = false
+accepts (more n) = false
 accepts (refused k p) = false
 
 -- whether TLVs fill these bytes: by `well-formed-tested`, no less and no more
 pub wellFormed : List ℕ → Bool
-wellFormed s = accepts (judge 0 (length s) s)
+wellFormed s = accepts (judge 0 0 (length s) s)
 
 not-true : false ≡ true → ⊥
 not-true e = let z : _≡_ {A = ℕ} 0 1 = cc in omega arith
@@ -26,14 +26,14 @@ not-true e = let z : _≡_ {A = ℕ} 0 1 = cc in omega arith
 accepts-by : (v : Verdict ℕ) → (accepts v ≡ true) ↔ Accepted v
 unfolding accepts
 accepts-by (accepted a n) = (λ e. tt, λ y. refl)
-accepts-by more = (not-true, λ y. absurd y)
+accepts-by (more n) = (not-true, λ y. absurd y)
 accepts-by (refused k p) = (not-true, λ y. absurd y)
 
 pub well-formed-tested : (s : List ℕ) → (wellFormed s ≡ true) ↔ WellFormed s
 unfolding wellFormed
 well-formed-tested s =
-    let by = accepts-by (judge 0 (length s) s) in
-    let is = judged 0 (length s) s refl in
+    let by = accepts-by (judge 0 0 (length s) s) in
+    let is = judged 0 0 (length s) s refl in
     (λ e. is .0 (by .0 e), λ w. by .1 (is .1 w))
 
 -- an answer that is true exactly of well-formed bytes is the test

@@ -24,23 +24,23 @@ fn is_good(size: usize, room: usize) -> bool
     size <= room - 3
 }
 
-// Judges the area of n bytes that s begins with; bytes behind it are not looked at. More, if s is shorter and can still be completed. TLVs
-// fill no area of 1 or 2 bytes: its first byte is refused, and before it the answer is More.
+// Judges the area of n bytes that s begins with; bytes behind it are not looked at. More with all that is missing, if s is shorter and can
+// still be completed. TLVs fill no area of 1 or 2 bytes: its first byte is refused, and before it the answer is More.
 pub fn region(s: &[u8], n: usize) -> Scan
-    ensures verdict { λ r. ⌜ ((k : ℕ) → told k r ≡ judge k n (now (s .entry))) ⌝ }
-    ensures claim { λ r. ⌜ ((k : ℕ) → (n ≡ 0) ⊎ (3 ≤ n) → Claim (Valueless (Filled n)) (λ u. k) (told k r) (now (s .entry))) ⌝ }
+    ensures verdict { λ r. ⌜ ((k m : ℕ) → told k m r ≡ judge k m n (now (s .entry))) ⌝ }
+    ensures claim { λ r. ⌜ ((k : ℕ) → (n ≡ 0) ⊎ (3 ≤ n) → Claim (Valueless (Filled n)) (λ u. k) (told k 0 r) (now (s .entry))) ⌝ }
 {
     let mut i: usize = 0;
     while i < n {
         if s.len() <= i {
-            return Scan::More;
+            return Scan::More(n - s.len());
         }
         // Only at 0: a good length leaves nothing, or three bytes at least.
         if n - i < 3 {
             return Scan::Refused(i);
         }
         if s.len() <= i + 1 {
-            return Scan::More;
+            return Scan::More(n - s.len());
         }
         let room = n - i - 3;
         let high = (s[i + 1] as usize) * 256;
@@ -48,7 +48,7 @@ pub fn region(s: &[u8], n: usize) -> Scan
             return Scan::Refused(i + 1);
         }
         if s.len() <= i + 2 {
-            return Scan::More;
+            return Scan::More(n - s.len());
         }
         let size = high + (s[i + 2] as usize);
         if is_good(size, room) {
@@ -58,7 +58,7 @@ pub fn region(s: &[u8], n: usize) -> Scan
         }
     }
     if s.len() < n {
-        Scan::More
+        Scan::More(n - s.len())
     } else {
         Scan::Accepted(0, n)
     }
@@ -70,7 +70,7 @@ pub fn well_formed(s: &[u8]) -> bool
 {
     match region(s, s.len()) {
         Scan::Accepted(_, _) => true,
-        Scan::More => false,
+        Scan::More(_) => false,
         Scan::Refused(_) => false,
     }
 }

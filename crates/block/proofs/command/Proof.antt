@@ -1,6 +1,6 @@
--- Byte 12 is a field that the table of commands gives; under LOCAL any byte follows it.
+-- Byte 12 is a field that the table of commands gives.
 use Prim.Native.Nat.{ℕ, _≤_}
-use mathlib.Core.Path.{_≡_, sym, ap, _∙_}
+use mathlib.Core.Path.{_≡_, refl, sym, ap, _∙_}
 use mathlib.Core.List.{List}
 use mathlib.Core.Option.{some, none}
 use native.Mathlib.Omega.{arith}
@@ -9,14 +9,10 @@ use borrow.Author.Tests.{ne-eqb}
 use lib.ListN.{length, drop, getD, length-drop}
 use lib.Seq.{getD-drop}
 use Rattle.exact.specs.Claim.{AllBytes}
-use Rattle.exact.specs.Parser.{_then_}
-use Rattle.record.specs.declared.Kind.the-variants.{Local}
-use Rattle.record.specs.Records.{bare}
-use Rattle.fields.specs.BlockFields.{local, proxy, commandOf, command, commandRest, anyByte, skipped}
-use Rattle.answer.specs.StageLaws.{sees-as, as-refused, as-accepted}
-use Rattle.block_body.proofs.Takes.{bytes-of, bytes-drop, next-short, short-at, pass-at}
-use Rattle.block_body.proofs.Leaves.{byte-short, byte-full, takes-byte}
-use Rattle.block_body.proofs.SkippedLaws.{skipped-wants}
+use Rattle.fields.specs.BlockFields.{local, proxy, commandOf, command, commandRest, fromCommand}
+use Rattle.answer.specs.StageLaws.{as-end, as-refused, as-accepted}
+use Rattle.block_body.proofs.Takes.{bytes-of, bytes-drop}
+use Rattle.block_body.proofs.Leaves.{byte-full}
 use Rattle.block.proofs.command.Statement.{statement}
 use Rattle.block.proofs.command.Tie as tie
 
@@ -44,30 +40,22 @@ module _ (c : tie.After-shared-slice-known2) where
   byte = getD-drop 12 (text start) 0 0
 
 returns : tie.Need-returns
-returns c =
-    let ran = c .before .before in
-    sees-as (c .more .ensures (text ran))
-    (short-at ((command then commandRest) .verdict) 1
-    (next-short (command .verdict) (λ x. commandRest x .verdict) 1 (byte-short commandOf 6)) (text ran) (all ran) 12
-    (let h = c .before .if1 .taken in omega arith))
+returns c = as-end (fromCommand .verdict) 4 refl (c .before .if1 .taken) (c .more .ensures _)
 
 returns-2 : tie.Need-returns-2
 returns-2 c =
     let ran = c .before .before in
     let s = text (start ran) in
     as-accepted command commandRest s 12 local 1
-    (sym (byte-full commandOf 6 (some local) (rest ran) (bytes ran) (here ran) (ap commandOf (byte ran ∙ c .before .match .keys1))))
-    (sees-as (c .local .ensures)
-    (sym
-    (pass-at (anyByte .verdict) (λ x. skipped (bare Local) .verdict) 1 (λ t. getD t 0 0) (takes-byte 7) s (all (start ran)) 13
-    (λ x. skipped-wants (bare Local)))))
+    (sym (byte-full commandOf 6 4 (some local) (rest ran) (bytes ran) (here ran) (ap commandOf (byte ran ∙ c .before .match .keys1))))
+    (c .local .ensures)
 
 returns-3 : tie.Need-returns-3
 returns-3 c =
     let ran = c .before .before in
     let s = text (start ran) in
     as-accepted command commandRest s 12 proxy 1
-    (sym (byte-full commandOf 6 (some proxy) (rest ran) (bytes ran) (here ran) (ap commandOf (byte ran ∙ c .before .match .keys2))))
+    (sym (byte-full commandOf 6 4 (some proxy) (rest ran) (bytes ran) (here ran) (ap commandOf (byte ran ∙ c .before .match .keys2))))
     (c .proxy .ensures)
 
 returns-4 : tie.Need-returns-4
@@ -78,7 +66,7 @@ returns-4 c =
     let others = c .before .match .rest in
     let unknown : commandOf x ≡ none = simp (ne-eqb x 0x20 (others .0 .1), ne-eqb x 0x21 (others .1)) in
     as-refused command commandRest s 12 6 0
-    (sym (byte-full commandOf 6 none (rest ran) (bytes ran) (here ran) (ap commandOf (byte ran) ∙ unknown)))
+    (sym (byte-full commandOf 6 4 none (rest ran) (bytes ran) (here ran) (ap commandOf (byte ran) ∙ unknown)))
     (c .refused .ensures s)
 
 pub command-spec : {M : Type 1} → statement M

@@ -5,7 +5,8 @@ use native.Mathlib.Omega.{arith}
 use borrow.Author.Tests.{eq-eqb, ne-eqb}
 use borrow.Author.Needs.{needs}
 use Rattle.record.specs.Kinds.{blockLength}
-use Rattle.fields.specs.BlockFields.{fits, block-small}
+use Rattle.fields.specs.Lengths.{fits}
+use Rattle.fields.specs.BlockFields.{block-small}
 use Rattle.block_body.proofs.fits.Statement.{statement}
 use Rattle.block_body.proofs.fits.Tie as tie
 

@@ -1,11 +1,11 @@
 -- The length of the block decides: more while the block is short.
-use Prim.Native.Nat.{ℕ, _+_, _≤_, _<_}
+use Prim.Native.Nat.{ℕ, _+_, _-_, _≤_, _<_}
 use mathlib.Core.Path.{ap, _∙_}
 use mathlib.Core.List.{List, []}
 use native.Mathlib.Omega.{arith}
 use borrow.Author.Needs.{needs}
 use lib.ListN.{length, drop}
-use Rattle.exact.specs.Claim.{AllBytes, accepted}
+use Rattle.exact.specs.Claim.{AllBytes, accepted, more}
 use Rattle.exact.specs.Field.{shift}
 use Rattle.exact.specs.Network.{numberAt}
 use Rattle.record.specs.declared.Kind.{Kind}
@@ -32,14 +32,18 @@ module _ (c : tie.After-shared-slice-known) where
 
 returns : tie.Need-returns
 returns c =
-    let ran = c .before .before in
-    sees-as (c .more .ensures (text ran)) (skipped-head (bare (kind ran)) (text ran) (all ran) (c .before .if1 .taken))
+    let ran = c .before .before .before in
+    sees-as (c .more .ensures (text ran))
+    (ap more (c .before .shortest .ensures) ∙ skipped-head (bare (kind ran)) (text ran) (all ran) (c .before .before .if1 .taken))
 
 returns-2 : tie.Need-returns-2
 returns-2 c =
     let ran = c .before .before .before .before .before .before in
-    let few : length (text ran) < 16 + numberAt (text ran) 14 = let size = c .before .before .number .ensures in omega arith in
-    sees-as (c .more2 .ensures (text ran)) (skipped-short (bare (kind ran)) (text ran) (all ran) (c .before .before .before .before .before .if1 .left) few)
+    let size = c .before .before .number .ensures in
+    let few : length (text ran) < 16 + numberAt (text ran) 14 = omega arith in
+    sees-as (c .more2 .ensures (text ran))
+    (ap (λ (n : ℕ). more (16 + n - length (text ran))) size
+    ∙ skipped-short (bare (kind ran)) (text ran) (all ran) (c .before .before .before .before .before .if1 .left) few)
 
 returns-3 : tie.Need-returns-3
 returns-3 c =
@@ -56,5 +60,5 @@ returns-3 c =
 pub skipped-spec : {M : Type 1} → statement M
 skipped-spec =
     tie.close
-    (tie.spec (λ c κs. search needs) returns (λ c. search needs) (λ c. search needs) (λ c κs. search needs) (λ c. search needs) (λ c. search needs)
-    (λ c κs. search needs) returns-2 (λ c κs. search needs) returns-3)
+    (tie.spec (λ c κs. search needs) (λ c κs. search needs) returns (λ c. search needs) (λ c. search needs) (λ c κs. search needs) (λ c. search needs)
+    (λ c. search needs) (λ c. search needs) (λ c κs. search needs) returns-2 (λ c κs. search needs) returns-3)

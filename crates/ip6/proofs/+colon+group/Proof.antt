@@ -13,8 +13,7 @@ use Rattle.ip6.specs.Machine.{digits, behind}
 use Rattle.ip6.specs.Partial.{Partial, sofar, Sized, gatheredOf}
 use Rattle.ip6.specs.Answer.{From}
 use Rattle.ip6.proofs.Gathered.{push-sized}
-use Rattle.ip6.proofs.Turn.{wants}
-use Rattle.ip6.proofs.AtGroup.{digits-fit, digits-more, group-none, group-long, group-digit, group-ends}
+use Rattle.ip6.proofs.AtGroup.{digits-fit, digits-more, counted-most, group-none, group-long, group-digit, group-ends, group-begins, group-goes-on}
 use Rattle.ip6.proofs.AtColon.{Leads, part-leads}
 use borrow.Fn.Kinds.{In}
 use borrow.Fn.PlainCycle.{Measures, is, falls, and}
@@ -26,6 +25,7 @@ use Rattle.ip6.proofs.group.Kinds as group-kinds
 use Rattle.ip6.proofs.+colon+group.Lts-group as group-lts
 use Rattle.ip6.proofs.finished.Reads as finished-reads
 use Rattle.colon_part.proofs.colon_part.Reads as colon-part-reads
+use Rattle.colon_part.proofs.least_behind.Reads as least-behind-reads
 use Rattle.hex.proofs.hex_value.Reads as hex-value-reads
 use Rattle.ip6.proofs.+colon+group.{statement}
 use Rattle.ip6.proofs.+colon+group.Tie.{close}
@@ -52,7 +52,7 @@ abbrev colon-calls : ℕ → colon-lts.Claims
 colon-calls t = (colon-part-reads.Asked, colon-part-reads.Learnt, finished-reads.Asked, finished-reads.Learnt, group-below t, group-reads.Post)
 
 abbrev group-calls : ℕ → group-lts.Claims
-group-calls t = (hex-value-reads.Asked, hex-value-reads.Learnt, colon-below t, colon-reads.Post)
+group-calls t = (hex-value-reads.Asked, hex-value-reads.Learnt, colon-below t, colon-reads.Post, least-behind-reads.Asked, least-behind-reads.Learnt)
 
 -- what is answered from here answers from where the group begins
 abbrev group-Inv-loop : group-lts.InvT-loop
@@ -97,7 +97,7 @@ module _ (t : ℕ) where
       (let z = start at .pre .0 in let low = l .2 in let h = l .3 in omega arith, (l .0, l .1, fits at))
 
   colon-returns : colon-lts.Need-returns (colon-calls t) (colon-at t) colon-reads.Post
-  colon-returns c = leads (c .before .before) _ (c .enum-told .given .1) _
+  colon-returns c = leads (c .before .before .before) _ (c .before .least .given .1) _
 
   colon-returns-2 : colon-lts.Need-returns-2 (colon-calls t) (colon-at t) colon-reads.Post
   colon-returns-2 c = leads (c .before .before .before) _ (c .before .dead .given .1) _
@@ -218,8 +218,28 @@ module _ (t : ℕ) where
         λ r g f. head at .loop .inv .4 r g (group-digit (inside at) digit few (rw value at f)),
       )
 
+  -- the bytes end in the group
+  group-add-least-behind : group-lts.Need-add-least-behind (group-calls t) (group-at t) group-reads.Post group-Inv-loop group-μ-loop
+  group-add-least-behind c = let few = c .before .before .before .pre .1 .1 in omega arith
+
+  group-add-place : group-lts.Need-add-place (group-calls t) (group-at t) group-reads.Post group-Inv-loop group-μ-loop
+  group-add-place c =
+      let start = c .before .before .before .before .before in
+      let most = counted-most (start .args .count + 1) (start .args .gap) in
+      let counted = c .before .least-behind .ensures in
+      omega arith
+
   group-returns-4 : group-lts.Need-returns-4 (group-calls t) (group-at t) group-reads.Post group-Inv-loop group-μ-loop
-  group-returns-4 c = c .before .loop .inv .4 _ _ (wants (c .loop-test .left))
+  group-returns-4 c =
+      let at = c .before in
+      let head = at .before .before in
+      head .loop .inv .4 _ _ (group-begins (head .loop .inv .3) (head .before .before .pre .1 .1) (at .before .loop-test .left) (at .least-behind .ensures) (c .if4 .taken))
+
+  group-returns-5 : group-lts.Need-returns-5 (group-calls t) (group-at t) group-reads.Post group-Inv-loop group-μ-loop
+  group-returns-5 c =
+      let at = c .before in
+      let head = at .before .before in
+      head .loop .inv .4 _ _ (group-goes-on (head .loop .inv .3) (head .before .before .pre .1 .1) (at .before .loop-test .left) (at .least-behind .ensures) (c .if4 .left))
 
 pub +colon+group-spec : {M : Type 1} → statement M
 +colon+group-spec = close μ-colon μ-group (λ t. colon-lts.spec (colon-calls t)
@@ -237,7 +257,7 @@ pub +colon+group-spec : {M : Type 1} → statement M
     (colon-returns-3 t)
     (colon-returns-4 t))
     λ t. group-lts.spec
-    (hex-value-reads.Asked, hex-value-reads.Learnt, colon-below t, colon-reads.Post)
+    (group-calls t)
     (group-at t)
     group-reads.Post
     group-Inv-loop
@@ -259,4 +279,8 @@ pub +colon+group-spec : {M : Type 1} → statement M
     (group-add-at t)
     (group-loop-less t)
     (group-loop-again t)
+    (group-add-least-behind t)
+    (λ c κs. search needs)
+    (group-add-place t)
     (group-returns-4 t)
+    (group-returns-5 t)

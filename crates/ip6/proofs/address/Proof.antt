@@ -12,20 +12,20 @@ use Rattle.exact.specs.Scans.{heard}
 use Rattle.exact.specs.declared.Scan.{Scan}
 use Rattle.exact.specs.declared.Scan.the-variants.{Refused}
 use Rattle.ip6.specs.Address.{Address, Ending}
-use Rattle.ip6.specs.Machine.{start, step}
+use Rattle.ip6.specs.Machine.{start, leastAddress, step}
 use Rattle.ip6.specs.Parser.{ip6}
 use Rattle.ip6.specs.Answer.{scanOf, From}
 use Rattle.ip6.proofs.address.Statement.{statement}
 use Rattle.ip6.proofs.address.Tie as tie
 
-whole : {end : ℕ} {s : List ℕ} {t : Scan} {g : List ℕ} → From end s 0 start t g → (k : ℕ) → heard k t g ≡ run k (step end) s start
-whole {end} {s} f k = f .verdict k ∙ sym (from-start k (step end) s start)
+whole : {end : ℕ} {s : List ℕ} {t : Scan} {g : List ℕ} → From end s 0 start t g → (k m : ℕ) → heard k m t g ≡ run k (step end) (leastAddress m) s start
+whole {end} {s} f k m = f .verdict k m ∙ sym (from-start k (step end) (leastAddress m) s start)
 
 -- a verdict, with its claim
-answered : (end : ℕ) (s : List ℕ) {v : ℕ → Verdict (List ℕ)} {Rest : Type 0} → ((k : ℕ) → v k ≡ run k (step end) s start) → Rest
-    → ((k : ℕ) → v k ≡ run k (step end) s start) × (Rest × ((k : ℕ) → Ending end → Claim (Ended Address end) (λ u. k) (v k) s))
+answered : (end : ℕ) (s : List ℕ) {v : ℕ → ℕ → Verdict (List ℕ)} {Rest : Type 0} → ((k m : ℕ) → v k m ≡ run k (step end) (leastAddress m) s start) → Rest
+    → ((k m : ℕ) → v k m ≡ run k (step end) (leastAddress m) s start) × (Rest × ((k : ℕ) → Ending end → Claim (Ended Address end) (λ u. k) (v k 0) s))
 answered end s verdict rest =
-    (verdict, (rest, λ k e. let p = ip6 k end e in leaf-claims k (Ended Address end) (p .bytes) s (verdict k) (p .exact s)))
+    (verdict, (rest, λ k e. let p = ip6 k 0 end e in leaf-claims k (Ended Address end) (p .bytes) s (verdict k 0) (p .exact s)))
 
 -- what is neither accepted nor more is refused
 refused-at : (n place : ℕ) → (n ≡ 0 → ⊥) → (n ≡ 1 → ⊥) → scanOf n place ≡ Refused place

@@ -1,5 +1,5 @@
 -- `begun` answers as the machine from its start: at a colon as `colon` behind no group, elsewhere as `group`.
-use mathlib.Core.Path.{_≡_}
+use mathlib.Core.Path.{_≡_, refl}
 use mathlib.Core.List.{List, []}
 use Prim.Native.Nat.{ℕ}
 use native.Mathlib.Omega.{arith}
@@ -21,7 +21,7 @@ module _ {end : ℕ} {s : List ℕ} {t : Scan} {g : List ℕ} where
   at-group n e f = likewise (omega arith) (simp (ne-eqb (getD s 0 0) 58 e)) f
 
 returns : tie.Need-returns
-returns c = let none = c .if1 .taken in wants (omega arith)
+returns c = let none = c .if1 .taken in wants refl (omega arith)
 
 returns-2 : tie.Need-returns-2
 returns-2 c = at-colon (c .before .before .before .before .before .before .if1 .left) (c .before .before .before .before .if2 .taken) (c .colon .ensures)

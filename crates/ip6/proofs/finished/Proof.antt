@@ -12,23 +12,23 @@ use Rattle.ip6.proofs.finished.Tie as tie
 returns : tie.Need-returns
 returns c =
     record {
-      verdict = λ k. ap (closed k _) (sym (finish-full _ (c .before .before .pre .0) (c .before .if1 .taken) (c .if2 .taken)));
+      verdict = λ k m. ap (closed k m _) (sym (finish-full _ (c .before .before .pre .0) (c .before .if1 .taken) (c .if2 .taken)));
       bare = refl;
     }
 
 returns-2 : tie.Need-returns-2
 returns-2 c =
     record {
-      verdict = λ k. ap (closed k _) (sym (finish-few _ (c .before .before .pre .0) (c .before .if1 .taken) (c .if2 .left)));
+      verdict = λ k m. ap (closed k m _) (sym (finish-few _ (c .before .before .pre .0) (c .before .if1 .taken) (c .if2 .left)));
       bare = tt;
     }
 
 returns-3 : tie.Need-returns-3
 returns-3 c =
     record {
-      verdict = λ k.
+      verdict = λ k m.
           ap (λ (g : List ℕ). accepted g (c .before .before .before .args .i + 1)) (c .spread-out .ensures)
-          ∙ ap (closed k _) (sym (finish-gapped _ (c .before .before .before .pre .0) (c .before .before .if1 .left)));
+          ∙ ap (closed k m _) (sym (finish-gapped _ (c .before .before .before .pre .0) (c .before .before .if1 .left)));
       bare = refl;
     }
 

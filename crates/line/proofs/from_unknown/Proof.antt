@@ -6,10 +6,9 @@ use native.Mathlib.Omega.{arith}
 use lib.ListN.{drop}
 use Rattle.exact.specs.Scans.{told}
 use Rattle.exact.specs.Stage.{stage-inside, stage-place}
-use Rattle.exact.specs.Parser.{Parser}
+use Rattle.exact.specs.LiteralLaws.{literal-most}
 use Rattle.exact.specs.declared.Scan.{Scan}
-use Rattle.header.specs.Header.{Header}
-use Rattle.fields.specs.LineFields.{unknownWord, unknownEnd}
+use Rattle.fields.specs.LineFields.{Headers, unknownWord, unknownEnd}
 use Rattle.answer.specs.StageLaws.{said, as-more, as-refused, as-accepted}
 use borrow.Author.Needs.{needs}
 use Rattle.line.proofs.from_unknown.Statement.{statement}
@@ -25,11 +24,14 @@ module _ (c : tie.After-literal) where
   abbrev at : ℕ
   at = start .args .at
 
-  abbrev rest : ℕ → Parser Header
+  abbrev rest : ℕ → Headers
   rest x = unknownEnd
 
-  found : (x : Scan) → c .literal .result ≡ x → told 2 x ≡ unknownWord .verdict (drop at text)
-  found x e = said 2 (unknownWord .verdict) text at e (c .literal .ensures .0 2)
+  found : (x : Scan) → c .literal .result ≡ x → told 2 2 x ≡ unknownWord .verdict (drop at text)
+  found x e = said 2 2 (unknownWord .verdict) text at e (c .literal .ensures .0 2 2)
+
+add-more : tie.Need-add-more
+add-more c = let ran = c .before .before .before in omega (arith, literal-most _ _ (ran .literal .ensures .1) (c .before .least .given .1))
 
 add-refused : tie.Need-add-refused
 add-refused c = let ran = c .before .before .before in let h = stage-place unknownWord (text ran) (at ran) (start ran .pre) 2 _ (found ran _ (c .before .place .given .1)) in omega arith
@@ -38,7 +40,7 @@ add-from-unknown-end : tie.Need-add-from-unknown-end
 add-from-unknown-end c = let ran = c .before .before .before in let h = stage-inside unknownWord (text ran) (at ran) (start ran .pre) _ _ (found ran _ (c .before .n .given .1)) in omega arith
 
 returns : tie.Need-returns
-returns c = let ran = c .before .before .before in as-more unknownWord (rest ran) (text ran) (at ran) (found ran _ (c .before .enum-told .given .1)) (c .more .ensures (text ran))
+returns c = let ran = c .before .before .before .before in as-more unknownWord (rest ran) (text ran) (at ran) _ (found ran _ (c .before .before .least .given .1)) (c .more .ensures (text ran))
 
 returns-2 : tie.Need-returns-2
 returns-2 c = let ran = c .before .before .before .before in as-refused unknownWord (rest ran) (text ran) (at ran) 2 _ (found ran _ (c .before .before .place .given .1)) (c .refused .ensures (text ran))
@@ -50,5 +52,5 @@ pub from-unknown-spec : {M : Type 1} → statement M
 from-unknown-spec =
     tie.close
     (tie.spec (λ c. search needs) (λ c. search needs) (λ c. search needs) (λ c. search needs) (λ c κs. search needs) (λ c. search needs)
-    (λ c κs. search needs) (λ c. search needs) add-refused (λ c κs. search needs) (λ c. search needs) add-from-unknown-end (λ c κs. search needs)
+    add-more (λ c κs. search needs) (λ c. search needs) add-refused (λ c κs. search needs) (λ c. search needs) add-from-unknown-end (λ c κs. search needs)
     returns returns-2 returns-3)

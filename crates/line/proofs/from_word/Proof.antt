@@ -5,25 +5,25 @@ use borrow.Author.Needs.{needs}
 use borrow.Author.Tests.{ne-eqb}
 use Rattle.fields.specs.Exactness.{address4, address6}
 use Rattle.fields.specs.LineFields.{isU, unknown, tcps, words}
-use Rattle.answer.specs.StageLaws.{sees-as}
-use Rattle.line_body.proofs.Choices.{byte-none, choice-by}
+use Rattle.answer.specs.StageLaws.{sees-as, as-end}
+use Rattle.line_body.proofs.Choices.{choice-by}
 use Rattle.line.proofs.from_word.Statement.{statement}
 use Rattle.line.proofs.from_word.Tie as tie
 
 returns : tie.Need-returns
-returns c = let start = c .before .before .before in sees-as (c .more .ensures (start .args .s .now)) (byte-none (start .args .s .now) (start .args .at) (words address4 address6 .verdict) refl (c .before .if1 .taken))
+returns c = as-end (words address4 address6 .verdict) 9 refl (c .before .if1 .taken) (c .more .ensures _)
 
 returns-2 : tie.Need-returns-2
 returns-2 c =
     let start = c .before .before .before .before .before in
     sees-as (c .from-unknown .ensures)
-    (choice-by (start .args .s .now) (start .args .at) (c .before .before .before .if1 .left) isU (unknown .verdict) (tcps address4 address6 .verdict) true (ap isU (c .before .if2 .taken)))
+    (choice-by (start .args .s .now) (start .args .at) (c .before .before .before .if1 .left) isU unknown (tcps address4 address6) true (ap isU (c .before .if2 .taken)))
 
 returns-3 : tie.Need-returns-3
 returns-3 c =
     let start = c .before .before .before .before .before in
     sees-as (c .from-tcp .ensures)
-    (choice-by (start .args .s .now) (start .args .at) (c .before .before .before .if1 .left) isU (unknown .verdict) (tcps address4 address6 .verdict) false (ne-eqb _ 85 (c .before .if2 .left)))
+    (choice-by (start .args .s .now) (start .args .at) (c .before .before .before .if1 .left) isU unknown (tcps address4 address6) false (ne-eqb _ 85 (c .before .if2 .left)))
 
 pub from-word-spec : {M : Type 1} → statement M
 from-word-spec =

@@ -8,7 +8,7 @@ returns : tie.Need-returns
 returns c =
     let found = c .before .ip4 in
     let x = found .result in
-    (told4 (x .scan) (x .octets) (c .before .before .before .args .s .now) (found .ensures .0 3), unused4 (x .scan) (x .octets) (found .ensures .1 .0))
+    (λ m. told4 m (x .scan) (x .octets) (c .before .before .before .args .s .now) (found .ensures .0 3 m), unused4 (x .scan) (x .octets) (found .ensures .1 .0))
 
 pub address4-spec : {M : Type 1} → statement M
 address4-spec =

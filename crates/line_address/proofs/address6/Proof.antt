@@ -10,7 +10,7 @@ returns c =
     let x = found .result in
     let s = c .before .before .before .before .args .s .now in
     rw (c .group-bytes .ensures)
-    (told6 (x .scan) (x .groups) s (found .ensures .0 3), unused6 (x .scan) (x .groups) s (found .ensures .0 3) (found .ensures .1 .0))
+    (λ m. told6 m (x .scan) (x .groups) s (found .ensures .0 3 m), unused6 (x .scan) (x .groups) s (found .ensures .0 3 0) (found .ensures .1 .0))
 
 pub address6-spec : {M : Type 1} → statement M
 address6-spec = tie.close (tie.spec (λ c κs. search needs) (λ c κs. search needs) returns)

@@ -3,14 +3,14 @@ use mathlib.Core.Path.{refl, sym, _∙_}
 use borrow.Author.Tests.{not-true, not-false}
 use Rattle.fields.specs.Exactness.{address4, address6}
 use Rattle.fields.specs.LineFields.{families}
-use Rattle.answer.specs.StageLaws.{sees-as}
-use Rattle.line_body.proofs.Choices.{byte-none, family-known, family-other}
+use Rattle.answer.specs.StageLaws.{sees-as, as-end}
+use Rattle.line_body.proofs.Choices.{family-known, family-other}
 use borrow.Author.Needs.{needs}
 use Rattle.line_body.proofs.from_family.Statement.{statement}
 use Rattle.line_body.proofs.from_family.Tie as tie
 
 returns : tie.Need-returns
-returns c = let start = c .before .before .before in sees-as (c .more .ensures (start .args .s .now)) (byte-none (start .args .s .now) (start .args .at) (families address4 address6 .verdict) refl (c .before .if1 .taken))
+returns c = as-end (families address4 address6 .verdict) 13 refl (c .before .if1 .taken) (c .more .ensures _)
 
 returns-2 : tie.Need-returns-2
 returns-2 c =

@@ -4,8 +4,8 @@ use mathlib.Core.Path.{_≡_, refl, sym, ap, subst}
 use lib.ListN.{drop}
 use Rattle.exact.specs.Field.{shift}
 use Rattle.fields.specs.LineFields.{lined, lineFeed, unknownEnd}
-use Rattle.answer.specs.StageLaws.{sees-as}
-use Rattle.line_body.proofs.Choices.{byte-none, end-cr, end-space, end-other}
+use Rattle.answer.specs.StageLaws.{sees-as, as-end}
+use Rattle.line_body.proofs.Choices.{end-cr, end-space, end-other}
 use Rattle.answer.specs.declared.Caller.{Caller}
 use Rattle.answer.specs.Sight.{callerRecord, callerOf}
 use borrow.Author.Needs.{needs}
@@ -13,7 +13,7 @@ use Rattle.line_body.proofs.from_unknown_end.Statement.{statement}
 use Rattle.line_body.proofs.from_unknown_end.Tie as tie
 
 returns : tie.Need-returns
-returns c = let start = c .before .before .before in sees-as (c .more .ensures (start .args .s .now)) (byte-none (start .args .s .now) (start .args .at) (unknownEnd .verdict) refl (c .before .if1 .taken))
+returns c = as-end (unknownEnd .verdict) 2 refl (c .before .if1 .taken) (c .more .ensures _)
 
 line-feed-requires : tie.Need-line-feed-requires
 line-feed-requires c κs = subst (λ (x : Caller). callerOf (callerRecord x) ≡ x) (sym (c .of-kind .ensures)) refl

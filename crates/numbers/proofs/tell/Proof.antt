@@ -14,8 +14,8 @@ use Rattle.numbers.proofs.tell.Tie as tie
 abbrev told : (first second area : ℕ) → Told
 told n v area = record { answer = 0; first = n; second = v; start = n - area; length = area }
 
-sub-t13 : tie.Need-sub-t13
-sub-t13 c =
+sub-t14 : tie.Need-sub-t14
+sub-t14 c =
     let span = c .before .before .before .before in
     let x = span .before .args in
     let ends = span .area-span .ensures in
@@ -34,16 +34,18 @@ returns c =
     ∙ ap (λ (w : Verdict). toldOf w (x .kind) (x .size)) (sym is)
 
 returns-2 : tie.Need-returns-2
-returns-2 c = let x = c .before .before .before .before .args in ap (λ (w : Verdict). toldOf w (x .kind) (x .size)) (sym (c .enum-told .given .1))
+returns-2 c =
+    let x = c .before .before .before .before .before .args in
+    ap (λ (w : Verdict). toldOf w (x .kind) (x .size)) (sym (c .before .verdict2 .given .1))
 
 returns-3 : tie.Need-returns-3
 returns-3 c =
     let x = c .before .before .before .before .before .before .args in
-    ap (λ (k : ℕ). record { answer = k; first = c .before .before .verdict2 .given .0 .1 .0; second = 0; start = 0; length = 0 }) (c .refusal-number .ensures)
-    ∙ ap (λ (w : Verdict). toldOf w (x .kind) (x .size)) (sym (c .before .before .verdict2 .given .1))
+    ap (λ (k : ℕ). record { answer = k; first = c .before .before .verdict3 .given .0 .1 .0; second = 0; start = 0; length = 0 }) (c .refusal-number .ensures)
+    ∙ ap (λ (w : Verdict). toldOf w (x .kind) (x .size)) (sym (c .before .before .verdict3 .given .1))
 
 pub tell-spec : {M : Type 1} → statement M
 tell-spec =
     tie.close
-    (tie.spec (λ c κs. search needs) (λ c. search needs) (λ c. search needs) (λ c. search needs) sub-t13 (λ c. search needs) (λ c. search needs)
+    (tie.spec (λ c κs. search needs) (λ c. search needs) (λ c. search needs) (λ c. search needs) sub-t14 (λ c. search needs) (λ c. search needs)
     (λ c κs. search needs) (λ c. search needs) returns returns-2 returns-3)

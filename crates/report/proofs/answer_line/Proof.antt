@@ -33,7 +33,7 @@ returns-2 c =
     let told = c .before .before .before in
     let k = told .before .before .before .args .reading .«record» .kind in
     rw (told .enum-told .given .1)
-    (rw (c .before .before .empty2 .ensures) at (c .push-word2 .ensures) ∙ appended-draft [] (lineOf More k) (omega arith))
+    (rw (c .before .before .empty2 .ensures) at (c .push-word2 .ensures) ∙ appended-draft [] (lineOf (More 0) k) (omega arith))
 
 returns-3 : tie.Need-returns-3
 returns-3 c =

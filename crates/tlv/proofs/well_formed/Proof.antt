@@ -18,10 +18,10 @@ module _ (c : tie.After-region) where
   abbrev area : List ℕ
   area = now (c .before .before .args .s)
 
-  says : Accepted (told 0 (c .region .result)) ↔ WellFormed area
-  says = rw (c .region .ensures .0 0) (judged 0 (length area) area refl)
+  says : Accepted (told 0 0 (c .region .result)) ↔ WellFormed area
+  says = rw (c .region .ensures .0 0 0) (judged 0 0 (length area) area refl)
 
-  denies : (Accepted (told 0 (c .region .result)) → ⊥) → (false ≡ true → WellFormed area) × (WellFormed area → false ≡ true)
+  denies : (Accepted (told 0 0 (c .region .result)) → ⊥) → (false ≡ true → WellFormed area) × (WellFormed area → false ≡ true)
   denies not = (λ e. absurd (let z : _≡_ {A = ℕ} 0 1 = cc in omega arith), λ w. absurd (not (says .1 w)))
 
 returns : tie.Need-returns
