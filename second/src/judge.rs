@@ -2,9 +2,9 @@
 //! verdict on those taken so far.
 
 use crate::field::Field;
-use crate::fixed_bytes::{LOCAL, SIGNATURE};
-use crate::grammar::automaton::{Automaton, State, Step};
-use crate::grammar::text_line_or_binary_start;
+use crate::fixed_bytes::LOCAL;
+use crate::grammar::beginning::{Beginning, Next};
+use crate::grammar::completion::fewest_bytes_behind;
 use crate::record::Kind;
 use crate::tlv::{can_be_filled, first_tlv_length};
 use crate::verdict::Verdict;
@@ -30,7 +30,7 @@ pub struct Judge {
 
 enum Stage {
     /// In the text line, or in the first sixteen bytes of version 2.
-    Start(State),
+    Beginning(Beginning),
     /// In the block of version 2.
     Block(Block),
     /// Accepted or refused: no further byte alters that.
@@ -50,7 +50,7 @@ impl Judge {
     pub fn new() -> Judge {
         Judge {
             seen: Vec::new(),
-            stage: Stage::Start(Automaton::START),
+            stage: Stage::Beginning(Beginning::EMPTY),
         }
     }
 
@@ -61,7 +61,7 @@ impl Judge {
         }
         self.seen.push(byte);
         self.stage = match self.stage {
-            Stage::Start(state) => self.after_start_byte(state, byte),
+            Stage::Beginning(beginning) => self.in_beginning(beginning, byte),
             Stage::Block(block) => self.in_block(block),
             Stage::Over(_) => unreachable!("no byte is taken any more"),
         };
@@ -76,18 +76,18 @@ impl Judge {
     pub fn verdict(&self) -> Verdict {
         match &self.stage {
             Stage::Over(verdict) => verdict.clone(),
-            Stage::Start(_) | Stage::Block(_) => Verdict::More,
+            Stage::Beginning(beginning) => Verdict::More(fewest_bytes_behind(*beginning)),
+            // However the block goes on, the header ends with it.
+            Stage::Block(block) => Verdict::More(block.end - self.seen.len()),
         }
     }
 
-    fn after_start_byte(&self, state: State, byte: u8) -> Stage {
-        match text_line_or_binary_start().step(state, byte) {
-            Step::Partial(next) => Stage::Start(next),
-            Step::Dead(field) => self.refused(field),
-            Step::Whole if self.seen.starts_with(&SIGNATURE) => {
-                self.in_block(Block::announced_by(&self.seen))
-            }
-            Step::Whole => self.accepted(),
+    fn in_beginning(&self, beginning: Beginning, byte: u8) -> Stage {
+        match beginning.next(byte) {
+            Next::Beginning(longer) => Stage::Beginning(longer),
+            Next::Line => self.accepted(),
+            Next::Block(length) => self.in_block(Block::behind(&self.seen, length)),
+            Next::Dead(field) => self.refused(field),
         }
     }
 
@@ -127,10 +127,10 @@ impl Default for Judge {
 }
 
 impl Block {
-    /// The block that the first sixteen bytes of a header announce.
-    fn announced_by(start: &[u8]) -> Block {
+    /// The block of `length` bytes behind the first sixteen of a header.
+    fn behind(start: &[u8], length: usize) -> Block {
         let (command, family) = (start[12], start[13]);
-        let end = start.len() + usize::from(u16::from_be_bytes([start[14], start[15]]));
+        let end = start.len() + length;
         let tlv = match Kind::of_byte_13(family) {
             Some(kind) if command != LOCAL && kind.has_addresses() => {
                 start.len() + kind.address_block_length()

@@ -2,15 +2,17 @@
 //!
 //! The judge answers as document 01 demands: accepted exactly if some prefix of the
 //! bytes is a whole header; more exactly if none is, but some continuation
-//! begins with one; else refused at the first dead byte, with the number of
-//! the field that holds it.
+//! begins with one, with the fewest bytes that such a one adds (document 02,
+//! K10); else refused at the first dead byte, with the number of the field that
+//! holds it.
 //!
 //! What a whole header is stands here twice, both times without the judge:
 //!
 //! - `grammar` writes the text line and the first sixteen bytes of version 2
 //!   as expressions over byte strings, and `tlv` tells which numbers of bytes
 //!   TLVs can fill. Which bytes are dead is computed from these by
-//!   reachability; no rule about dead bytes is written down.
+//!   reachability, and how few bytes are missing by a search; no rule about
+//!   either is written down.
 //! - `whole` takes given bytes apart and tells whether they are a whole
 //!   header, and with which values. An accepted header gets its values here.
 //!

@@ -20,8 +20,13 @@ pub struct Header {
 #[derive(Clone, Debug, PartialEq, Eq)]
 pub enum Verdict {
     Accepted(Box<Header>),
-    More,
-    Refused { number: u8, place: usize },
+    /// The fewest further bytes with which some continuation is a whole header
+    /// (document 02, K10).
+    More(usize),
+    Refused {
+        number: u8,
+        place: usize,
+    },
 }
 
 impl fmt::Display for Verdict {
@@ -30,7 +35,7 @@ impl fmt::Display for Verdict {
             Verdict::Accepted(header) => {
                 write!(f, "accepted {} {}", header.length, header.record.kind)
             }
-            Verdict::More => f.write_str("more"),
+            Verdict::More(_) => f.write_str("more"),
             Verdict::Refused { number, place } => write!(f, "refused {number} at {place}"),
         }
     }

@@ -22,9 +22,16 @@ pub enum Step {
 
 pub struct Automaton {
     classes: ByteClasses,
-    /// For each state the steps by byte class. States that are not walked
-    /// from, the dead and the whole ones, have none.
-    steps: Vec<Vec<Step>>,
+    /// One for each state. States that are not walked from, the dead and the
+    /// whole ones, have none.
+    rows: Vec<Option<Row>>,
+}
+
+struct Row {
+    /// The field of the next byte.
+    field: Field,
+    /// The steps by byte class.
+    steps: Vec<Step>,
 }
 
 impl Automaton {
@@ -38,14 +45,14 @@ impl Automaton {
         let whole: Vec<bool> = exprs.iter().map(|&e| grammar.holds_empty(e)).collect();
         let live = reaching(&whole, &successors);
 
-        let steps_from = |state: State| {
+        let row = |state: State| {
             if !live[state] {
-                return Vec::new();
+                return None;
             }
             if whole[state] {
                 let goes_on = successors[state].iter().any(|&next| live[next]);
                 assert!(!goes_on, "a whole string begins no other");
-                return Vec::new();
+                return None;
             }
             let field = only_field(grammar, exprs[state]);
             let step_to = |&next: &State| match (whole[next], live[next]) {
@@ -53,14 +60,25 @@ impl Automaton {
                 (false, true) => Step::Partial(next),
                 (false, false) => Step::Dead(field),
             };
-            successors[state].iter().map(step_to).collect()
+            let steps = successors[state].iter().map(step_to).collect();
+            Some(Row { field, steps })
         };
-        let steps = (0..exprs.len()).map(steps_from).collect();
-        Automaton { classes, steps }
+        let rows = (0..exprs.len()).map(row).collect();
+        Automaton { classes, rows }
     }
 
     pub fn step(&self, state: State, byte: u8) -> Step {
-        self.steps[state][self.classes.class_of[usize::from(byte)]]
+        self.row(state).steps[self.classes.class_of[usize::from(byte)]]
+    }
+
+    /// The field that the byte behind this state belongs to.
+    pub fn field(&self, state: State) -> Field {
+        self.row(state).field
+    }
+
+    fn row(&self, state: State) -> &Row {
+        let row = self.rows[state].as_ref();
+        row.expect("only states in the middle of a string are walked from")
     }
 }
 

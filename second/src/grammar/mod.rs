@@ -3,8 +3,10 @@
 //! which say how many bytes follow.
 
 pub mod automaton;
+pub mod beginning;
 pub mod binary_start;
 pub mod byte_set;
+pub mod completion;
 pub mod expression;
 pub mod text_line;
 

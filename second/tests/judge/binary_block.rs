@@ -1,7 +1,7 @@
 //! Consequences of document 01, The binary block, but for the TLVs.
 
 use crate::helpers::*;
-use second::{judge, Kind, Verdict};
+use second::{judge, Kind};
 
 /// Block bytes that differ from their neighbours.
 fn counting(length: usize) -> Vec<u8> {
@@ -11,24 +11,24 @@ fn counting(length: usize) -> Vec<u8> {
 #[test]
 fn every_byte_of_the_signature_counts() {
     for place in 0..12 {
-        assert_eq!(judge(&S[..place]), Verdict::More);
+        assert!(is_more(&S[..place]));
         for byte in (0..=0xFF).filter(|&byte| byte != S[place]) {
             // At place 0 the text line may begin instead.
             let answer = match (place, byte) {
-                (0, b'P') => Verdict::More,
+                (0, b'P') => more(14),
                 _ => refused(1, place),
             };
             assert_eq!(judge(&[&S[..place], &[byte]].concat()), answer);
         }
     }
-    assert_eq!(judge(&S), Verdict::More);
+    assert_eq!(judge(&S), more(4));
 }
 
 #[test]
 fn byte_12_is_version_2_with_local_or_proxy() {
     for byte in 0..=0xFF {
         let answer = match byte {
-            0x20 | 0x21 => Verdict::More,
+            0x20 | 0x21 => more(3),
             _ => refused(6, 12),
         };
         assert_eq!(judge(&behind_signature(&[byte])), answer);
@@ -38,11 +38,11 @@ fn byte_12_is_version_2_with_local_or_proxy() {
 #[test]
 fn byte_13_of_proxy_is_one_of_twelve() {
     for byte in 0..=0xFF {
-        let answer = match byte {
-            0x00..=0x02 | 0x10..=0x12 | 0x20..=0x22 | 0x30..=0x32 => Verdict::More,
-            _ => refused(7, 13),
-        };
-        assert_eq!(judge(&behind_signature(&[0x21, byte])), answer);
+        let input = behind_signature(&[0x21, byte]);
+        match byte {
+            0x00..=0x02 | 0x10..=0x12 | 0x20..=0x22 | 0x30..=0x32 => assert!(is_more(&input)),
+            _ => assert_eq!(judge(&input), refused(7, 13)),
+        }
     }
 }
 
@@ -51,14 +51,8 @@ fn the_high_length_byte_is_never_dead() {
     let address_kinds = ADDRESS_KINDS.map(|(family, ..)| family);
     for family in UNSPECIFIED.into_iter().chain(address_kinds) {
         for high in 0..=0xFF {
-            assert_eq!(
-                judge(&behind_signature(&[0x21, family, high])),
-                Verdict::More
-            );
-            assert_eq!(
-                judge(&behind_signature(&[0x20, family, high])),
-                Verdict::More
-            );
+            assert!(is_more(&behind_signature(&[0x21, family, high])));
+            assert!(is_more(&behind_signature(&[0x20, family, high])));
         }
     }
 }
@@ -68,7 +62,7 @@ fn the_length_is_a_or_at_least_a_plus_3() {
     for (family, _, _, a) in ADDRESS_KINDS {
         for length in 0..=65_535 {
             let answer = if length == a || length >= a + 3 {
-                Verdict::More
+                more(length)
             } else {
                 refused(8, 15)
             };
@@ -100,7 +94,12 @@ fn lengths_at_the_border_of_each_kind() {
         ([0x31, 1, 0], false),
     ] {
         let input = behind_signature(&[&[0x21], &bytes[..]].concat());
-        let answer = if dead { refused(8, 15) } else { Verdict::More };
+        let [_, high, low] = bytes;
+        let length = 256 * usize::from(high) + usize::from(low);
+        let answer = match dead {
+            true => refused(8, 15),
+            false => more(length),
+        };
         assert_eq!(judge(&input), answer, "{bytes:?}");
     }
 }
@@ -120,7 +119,7 @@ fn the_address_block_gives_the_record() {
         assert_eq!(judge(&input), accepted(record, 2, end, end..end));
         assert_eq!(judge(&input).to_string(), format!("accepted {end} {word}"));
         for length in 0..end {
-            assert_eq!(judge(&input[..length]), Verdict::More);
+            assert!(is_more(&input[..length]));
         }
     }
 }
@@ -158,7 +157,7 @@ fn local_takes_any_byte_13_and_any_length() {
             let answer = accepted(bare(Kind::Local), 2, end, end..end);
             assert_eq!(judge(&input), answer);
             if length > 0 {
-                assert_eq!(judge(&input[..end - 1]), Verdict::More);
+                assert_eq!(judge(&input[..end - 1]), more(1));
             }
         }
     }
@@ -173,7 +172,7 @@ fn proxy_unspecified_takes_any_length_and_block() {
             let answer = accepted(bare(Kind::Unspecified), 2, end, end..end);
             assert_eq!(judge(&input), answer);
             assert_eq!(judge(&[&input[..], &[0; 9]].concat()), answer);
-            assert_eq!(judge(&input[..end - 1]), Verdict::More);
+            assert_eq!(judge(&input[..end - 1]), more(1));
         }
     }
 }
@@ -226,7 +225,7 @@ fn bytes_behind_a_verdict_never_change_it() {
     ];
     for input in inputs {
         let verdict = judge(&input);
-        assert_ne!(verdict, Verdict::More, "{input:?}");
+        assert!(!is_more(&input), "{input:?}");
         for behind in behinds {
             assert_eq!(judge(&[&input[..], behind].concat()), verdict);
         }

@@ -5,9 +5,9 @@
 use crate::helpers::*;
 use second::{judge, whole_header, Judge, Verdict};
 
-/// The verdict by the definition. `is_live` tells of bytes without a whole
-/// header at their beginning whether some continuation of them has one there.
-fn defined_verdict(input: &[u8], is_live: impl Fn(&[u8]) -> bool) -> Verdict {
+/// The verdict by the definition. `fewest` tells of bytes without a whole header
+/// at their beginning how few further bytes make them one, if any do.
+fn defined_verdict(input: &[u8], fewest: impl Fn(&[u8]) -> Option<usize>) -> Verdict {
     let prefixes: Vec<&[u8]> = (0..=input.len()).map(|length| &input[..length]).collect();
     let mut whole = prefixes.iter().filter_map(|prefix| whole_header(prefix));
     if let Some(header) = whole.next() {
@@ -15,11 +15,11 @@ fn defined_verdict(input: &[u8], is_live: impl Fn(&[u8]) -> bool) -> Verdict {
         return Verdict::Accepted(Box::new(header));
     }
     // What continues a prefix continues the shorter ones as well.
-    let live = prefixes.partition_point(|prefix| is_live(prefix));
-    if live == prefixes.len() {
-        return Verdict::More;
-    }
+    let live = prefixes.partition_point(|prefix| fewest(prefix).is_some());
     let before = prefixes[live - 1];
+    if before == input {
+        return more(fewest(input).unwrap());
+    }
     refused(number_behind(before), before.len())
 }
 
@@ -48,26 +48,31 @@ fn number_behind(before: &[u8]) -> u8 {
     }
 }
 
-/// True if one of some candidates is a whole header and begins with `prefix`.
-/// They are chosen so that if any header begins with it, one of them does.
-fn can_be_completed(prefix: &[u8]) -> bool {
+/// The bytes behind `prefix` in the shortest of some candidates that are whole
+/// headers and begin with it. They are chosen so that if any header begins with
+/// it, a shortest one is among them.
+fn fewest_by_candidates(prefix: &[u8]) -> Option<usize> {
     let candidates = if prefix.first() == Some(&S[0]) {
         binary_candidates(prefix)
     } else {
         text_candidates(prefix)
     };
-    let mut candidates = candidates.iter();
-    candidates.any(|bytes| bytes.starts_with(prefix) && whole_header(bytes).is_some())
+    let headers = candidates
+        .iter()
+        .filter(|bytes| bytes.starts_with(prefix) && whole_header(bytes).is_some());
+    headers.map(|header| header.len() - prefix.len()).min()
 }
 
 /// The prefix with the ends of a few lines. Wherever a live prefix stops, the
-/// open word, number or group can be closed at once, or with one character, as
-/// it is in one of these, and from there on the prefix can go on like that line.
+/// open word, number or address can be closed as one of these closes it, with
+/// no more characters than are needed; and the fields behind it are as short as
+/// they can be.
 fn text_candidates(prefix: &[u8]) -> Vec<Vec<u8>> {
-    let lines: [&[u8]; 5] = [
+    let lines: [&[u8]; 6] = [
         b"PROXY TCP4 0.0.0.0 0.0.0.0 0 0\r\n",
-        b"PROXY TCP6 0:0:0:0:0:0:0:0 0:0:0:0:0:0:0:0 0 0\r\n",
         b"PROXY TCP6 :: :: 0 0\r\n",
+        b"PROXY TCP6 ::0 :: 0 0\r\n",
+        b"PROXY TCP6 :: ::0 0 0\r\n",
         b"PROXY UNKNOWN\r\n",
         b"PROXY UNKNOWN \r\n",
     ];
@@ -91,14 +96,17 @@ fn binary_candidates(prefix: &[u8]) -> Vec<Vec<u8>> {
             .collect()
     };
     match prefix.len() {
-        // With byte 13 and the length zero, LOCAL and PROXY are whole at once.
+        // With byte 13 and the length zero, LOCAL and PROXY are whole at once,
+        // and no header of version 2 is shorter.
         0..=13 => {
             let end = [&S[..], &[0x20, 0, 0, 0]].concat();
             vec![[prefix, &end[prefix.len()..]].concat()]
         }
-        // A length of 0, or A of one of the kinds, is always good.
+        // A length of 0, or A of one of the kinds, is always good, and the
+        // shortest that is.
         14 => with_lengths(&[prefix, &[0]].concat()),
-        // So it is here with a high byte 0. With another, any low byte is good.
+        // So it is here with a high byte 0. With another, any low byte is good,
+        // 0 too.
         15 => with_lengths(prefix),
         _ => block_candidates(prefix),
     }
@@ -264,7 +272,7 @@ fn check(input: &[u8]) {
     let verdict = judge(input);
     assert_eq!(
         verdict,
-        defined_verdict(input, can_be_completed),
+        defined_verdict(input, fewest_by_candidates),
         "{input:?}"
     );
     let mut one_by_one = Judge::new();
@@ -274,7 +282,7 @@ fn check(input: &[u8]) {
         assert_eq!(so_far, judge(&input[..length]), "{length} of {input:?}");
         // Once a verdict is not "more", it stays as it is.
         let first = over.get_or_insert_with(|| so_far.clone());
-        if *first == Verdict::More {
+        if matches!(first, Verdict::More(_)) {
             over = None;
         } else {
             assert_eq!(so_far, *first, "{length} of {input:?}");
@@ -348,7 +356,7 @@ fn every_byte_at_every_place() {
             for byte in 0..=0xFF {
                 let mut input = header[..=place].to_vec();
                 input[place] = byte;
-                let defined = defined_verdict(&input, can_be_completed);
+                let defined = defined_verdict(&input, fewest_by_candidates);
                 assert_eq!(judge(&input), defined, "{input:?}");
             }
         }
@@ -373,7 +381,9 @@ fn all_small_tlv_areas() {
             live.extend((0..=whole.len()).map(|end| whole[..end].to_vec()));
         }
         for input in &headers {
-            let defined = defined_verdict(input, |prefix| live.contains(prefix));
+            let behind = |prefix: &[u8]| start.len() + length - prefix.len();
+            let fewest = |prefix: &[u8]| live.contains(prefix).then(|| behind(prefix));
+            let defined = defined_verdict(input, fewest);
             assert_eq!(judge(input), defined, "{input:?}");
         }
     }

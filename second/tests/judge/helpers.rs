@@ -65,6 +65,15 @@ pub fn refused(number: u8, place: usize) -> Verdict {
     Verdict::Refused { number, place }
 }
 
+pub fn more(bytes: usize) -> Verdict {
+    Verdict::More(bytes)
+}
+
+/// True if the verdict is "more", with whatever number.
+pub fn is_more(input: &[u8]) -> bool {
+    matches!(judge(input), Verdict::More(_))
+}
+
 /// A record with no addresses and ports.
 pub fn bare(kind: Kind) -> Record {
     record(kind, &[], &[], 0, 0)

@@ -1,9 +1,10 @@
 //! What the judge answers, what is written and stored, and what is seen in
-//! TLVs. The expected answers are written by hand from
-//! document 01; none is taken from a program.
+//! TLVs. The expected answers are written by hand from documents 01 and 02;
+//! none is taken from a program.
 
 mod binary_block;
 mod definition;
+mod fewest_bytes;
 mod helpers;
 mod lookup;
 mod program;

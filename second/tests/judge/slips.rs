@@ -1,7 +1,7 @@
 //! Document 01, Slips to expect.
 
 use crate::helpers::*;
-use second::{judge, Kind, Verdict};
+use second::{judge, Kind};
 
 #[test]
 fn an_octet_is_refused_when_seen_not_at_the_line_end() {
@@ -16,9 +16,9 @@ fn an_octet_is_refused_when_seen_not_at_the_line_end() {
 
 #[test]
 fn the_zero_byte_of_the_signature_ends_nothing() {
-    assert_eq!(judge(&S[..4]), Verdict::More);
-    assert_eq!(judge(&S[..5]), Verdict::More);
-    assert_eq!(judge(&S[..6]), Verdict::More);
+    assert_eq!(judge(&S[..4]), more(12));
+    assert_eq!(judge(&S[..5]), more(11));
+    assert_eq!(judge(&S[..6]), more(10));
     let behind_zero = [&S[..5], b"\r\nQUIT\r"].concat();
     assert_eq!(judge(&behind_zero), refused(1, 11));
     let without_zero = b"\r\n\r\n\r\nQUIT\n";
@@ -32,7 +32,7 @@ fn the_block_of_local_belongs_to_the_header() {
     assert_eq!(judge(&whole), answer);
     assert_eq!(judge(&[&whole[..], b"payload"].concat()), answer);
     for length in 16..21 {
-        assert_eq!(judge(&whole[..length]), Verdict::More);
+        assert_eq!(judge(&whole[..length]), more(21 - length));
     }
 }
 

@@ -2,7 +2,7 @@
 //! examples only; where they speak otherwise, document 01 decides.
 
 use crate::helpers::*;
-use second::{judge, Kind, Record, Transport, Verdict};
+use second::{judge, Kind, Record, Transport};
 
 fn tcp4(source: [u8; 4], destination: [u8; 4], ports: [u16; 2]) -> Record {
     let kind = Kind::Ip4(Transport::Stream);
@@ -62,9 +62,9 @@ fn documents_001_and_002_lines_as_printed() {
 fn documents_000_and_001_known_beginnings() {
     let local = *b"\x0D\x0A\x0D\x0A\x00\x0D\x0A\x51\x55\x49\x54\x0A\x20";
     let proxy = *b"\x0D\x0A\x0D\x0A\x00\x0D\x0A\x51\x55\x49\x54\x0A\x21";
-    assert_eq!(judge(&local), Verdict::More);
-    assert_eq!(judge(&proxy), Verdict::More);
-    assert_eq!(judge(b"\x50\x52\x4F\x58\x59"), Verdict::More);
+    assert_eq!(judge(&local), more(3));
+    assert_eq!(judge(&proxy), more(3));
+    assert_eq!(judge(b"\x50\x52\x4F\x58\x59"), more(10));
 }
 
 /// 002, the example before an HTTP request.
@@ -130,7 +130,7 @@ fn document_003_binary_header() {
 fn document_003_other_commands_and_transports() {
     assert_eq!(judge(&behind_signature(&[0x22])), refused(6, 12));
     assert_eq!(judge(&behind_signature(&[0x21, 0x13])), refused(7, 13));
-    assert_eq!(judge(&behind_signature(&[0x21, 0x10])), Verdict::More);
+    assert_eq!(judge(&behind_signature(&[0x21, 0x10])), more(2));
 }
 
 /// 000 and 001, section 2.2.6: a PP2_TYPE_SSL TLV that holds others, with the

@@ -11,7 +11,7 @@ fn check_wrong_byte_at_each_place(line: &str, numbers: &str) {
         input[place] = b'x';
         assert_eq!(judge(&input), refused(number - b'0', place), "{line:?}");
         assert_eq!(judge(&input[..=place]), refused(number - b'0', place));
-        assert_eq!(judge(&input[..place]), Verdict::More);
+        assert!(is_more(&input[..place]));
     }
 }
 
@@ -260,7 +260,7 @@ fn the_longest_tcp_lines_have_56_and_104_bytes() {
         ),
         ("PROXY TCP6 FFFFF", "refused 3 at 15"),
     ]);
-    assert_eq!(judge(&tcp6.as_bytes()[..103]), Verdict::More);
+    assert_eq!(judge(&tcp6.as_bytes()[..103]), more(1));
 }
 
 /// An UNKNOWN line of `length` bytes up to here: the 14 bytes of
@@ -285,9 +285,9 @@ fn unknown_lines_have_at_most_107_bytes() {
     for length in 14..=105 {
         let whole = with_end(unknown(length), b"\r\n");
         assert_eq!(judge(&whole), unspecified(length + 2));
-        assert_eq!(judge(&whole[..length + 1]), Verdict::More);
+        assert_eq!(judge(&whole[..length + 1]), more(1));
     }
-    assert_eq!(judge(&unknown(105)), Verdict::More);
+    assert_eq!(judge(&unknown(105)), more(2));
     assert_eq!(judge(&unknown(106)), refused(5, 105));
     assert_eq!(judge(&unknown(107)), refused(5, 105));
     assert_eq!(judge(&with_end(unknown(106), b"\r\n")), refused(5, 105));
@@ -298,7 +298,7 @@ fn unknown_lines_have_at_most_107_bytes() {
 fn the_last_two_bytes_of_the_longest_line_are_cr_lf() {
     // The CR is byte 105, so 106 bytes are there and one is missing.
     let up_to_cr = with_end(unknown(105), b"\r");
-    assert_eq!(judge(&up_to_cr), Verdict::More);
+    assert_eq!(judge(&up_to_cr), more(1));
     assert_eq!(judge(&with_end(up_to_cr.clone(), b"\n")), unspecified(107));
     assert_eq!(
         judge(&with_end(up_to_cr.clone(), b"\n\n")),
@@ -309,7 +309,7 @@ fn the_last_two_bytes_of_the_longest_line_are_cr_lf() {
     // A CR at 104 may be lone, if another follows; an LF ends a shorter line.
     let cr_at_104 = with_end(unknown(104), b"\r");
     assert_eq!(judge(&with_end(cr_at_104.clone(), b"\n")), unspecified(106));
-    assert_eq!(judge(&with_end(cr_at_104.clone(), b"\r")), Verdict::More);
+    assert_eq!(judge(&with_end(cr_at_104.clone(), b"\r")), more(1));
     assert_eq!(
         judge(&with_end(cr_at_104.clone(), b"\r\n")),
         unspecified(107)
@@ -323,7 +323,7 @@ fn the_last_two_bytes_of_the_longest_line_are_cr_lf() {
 fn every_byte_but_cr_is_dead_at_place_105() {
     for byte in 0..=0xFF {
         let answer = match byte {
-            b'\r' => Verdict::More,
+            b'\r' => more(1),
             _ => refused(5, 105),
         };
         assert_eq!(judge(&with_end(unknown(105), &[byte])), answer);

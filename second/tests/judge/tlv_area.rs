@@ -31,7 +31,7 @@ fn the_high_length_byte_is_dead_if_256_times_it_exceeds_r() {
             let answer = if 256 * usize::from(high) > r {
                 refused(9, 29)
             } else {
-                Verdict::More
+                more(1 + r)
             };
             assert_eq!(judge(&with_tlv(r, &[1, high])), answer, "{high} of {r}");
         }
@@ -50,7 +50,7 @@ fn a_length_is_good_if_it_is_r_or_at_most_r_minus_3() {
                 assert_eq!(verdict, refused(9, 29), "{value} of {r}");
             } else if value == r || value + 3 <= r {
                 assert_ne!(verdict, refused(9, 30), "{value} of {r}");
-                assert_eq!(verdict == Verdict::More, r > 0, "{value} of {r}");
+                assert_eq!(verdict == more(r), r > 0, "{value} of {r}");
             } else {
                 assert_eq!(verdict, refused(9, 30), "{value} of {r}");
             }
@@ -91,8 +91,8 @@ fn a_later_tlv_is_judged_by_what_is_left_behind_it() {
     let area = [1, 0, 2, 7, 7, 2, 0, 1, 8, 3, 0, 0];
     let whole = with_area(&area);
     assert_eq!(judge(&whole), accepted_with_area(12));
-    for length in 0..40 {
-        assert_eq!(judge(&whole[..length]), Verdict::More);
+    for length in 16..40 {
+        assert_eq!(judge(&whole[..length]), more(40 - length));
     }
     // The second starts at 33 with R = 4; the third at 37 with R = 0.
     for (place, byte, answer) in [
@@ -142,13 +142,13 @@ fn longest_headers_with_one_tlv() {
         let block = [vec![0; a], vec![1, high, low], vec![9; r]].concat();
         let input = binary(0x21, family, 65_535, &block);
         assert_eq!(judge(&input), accepted_longest(kind, a));
-        assert_eq!(judge(&input[..65_550]), Verdict::More);
+        assert_eq!(judge(&input[..65_550]), more(1));
         let beginning = |length: u8| [&input[..16 + a + 2], &[length]].concat();
         let low_place = 16 + a + 2;
         assert_eq!(judge(&beginning(low + 1)), refused(9, low_place));
         assert_eq!(judge(&beginning(low - 1)), refused(9, low_place));
         assert_eq!(judge(&beginning(low - 2)), refused(9, low_place));
-        assert_eq!(judge(&beginning(low - 3)), Verdict::More);
+        assert_eq!(judge(&beginning(low - 3)), more(r));
     }
 }
 
