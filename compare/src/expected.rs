@@ -7,7 +7,7 @@ const NO_ROOM: u32 = 14;
 const END: u32 = 252;
 const ABSENT: u32 = 253;
 const GAVE_UP: u32 = 254;
-const MORE: u32 = 255;
+pub const MORE: u32 = 255;
 
 /// What is left where nothing is written.
 fn untouched(answer: u32, numbers_len: usize, bytes_len: usize) -> Left {
@@ -30,16 +30,21 @@ fn with_connection(record: &Record, connection_len: usize) -> Vec<u8> {
 }
 
 pub fn read(bytes: &[u8], numbers_len: usize, connection_len: usize) -> Left {
+    reading(second::judge(bytes), numbers_len, connection_len)
+}
+
+/// What is told of bytes with this verdict.
+pub fn reading(verdict: Verdict, numbers_len: usize, connection_len: usize) -> Left {
     if numbers_len < 4 || connection_len < SIZE {
         return untouched(NO_ROOM, numbers_len, connection_len);
     }
     let nobody = Record::blank(Kind::Unspecified);
-    let (answer, four, record) = match second::judge(bytes) {
+    let (answer, four, record) = match verdict {
         Verdict::Accepted(header) => {
             let area = &header.tlv_area;
             (0, [header.length as u64, u64::from(header.version), area.start as u64, area.len() as u64], header.record)
         }
-        Verdict::More => (MORE, [0; 4], nobody),
+        Verdict::More(least) => (MORE, [least as u64, 0, 0, 0], nobody),
         Verdict::Refused { number, place } => (u32::from(number), [place as u64, 0, 0, 0], nobody),
     };
     told(answer, four, numbers_len, with_connection(&record, connection_len))

@@ -1,4 +1,6 @@
 //! Whole headers of every kind, from which the inputs are made.
+use crate::random::Random;
+
 pub const SIGNATURE: [u8; 12] = *b"\r\n\r\n\0\r\nQUIT\n";
 
 /// A version 2 header with this command, byte 13 and block.
@@ -80,4 +82,53 @@ pub fn long() -> Vec<Vec<u8>> {
         block(0x21, 0x00, &addresses(65_519)),
         block(0x21, 0x10, &addresses(65_520)),
     ]
+}
+
+/// A line at random.
+pub fn line(random: &mut Random) -> Vec<u8> {
+    let (word, address): (_, fn(&mut Random) -> String) = match random.below(8) {
+        0 => return unknown(random),
+        1 | 2 => ("TCP4", ip4),
+        _ => ("TCP6", ip6),
+    };
+    let [source, destination] = [address(random), address(random)];
+    let [from, to] = [number(65_535, random), number(65_535, random)];
+    format!("PROXY {word} {source} {destination} {from} {to}\r\n").into_bytes()
+}
+
+/// An UNKNOWN line with many CRs and LFs, of which none ends it early.
+fn unknown(random: &mut Random) -> Vec<u8> {
+    let mut line = b"PROXY UNKNOWN ".to_vec();
+    for _ in 0..random.below(92) {
+        let byte = b"\r\n x"[random.below(4)];
+        line.push(if line.ends_with(b"\r") && byte == b'\n' { b'x' } else { byte });
+    }
+    line.extend_from_slice(b"\r\n");
+    line
+}
+
+fn ip4(random: &mut Random) -> String {
+    [(); 4].map(|()| number(255, random)).join(".")
+}
+
+/// Eight groups, or "::" with fewer on either side of it.
+fn ip6(random: &mut Random) -> String {
+    if random.below(3) == 0 {
+        return groups(8, random);
+    }
+    let before = random.below(8);
+    let after = random.below(8 - before);
+    format!("{}::{}", groups(before, random), groups(after, random))
+}
+
+fn groups(count: usize, random: &mut Random) -> String {
+    let digit = |random: &mut Random| char::from(b"0123456789abcdefABCDEF"[random.below(22)]);
+    let group = |random: &mut Random| (0..1 + random.below(4)).map(|_| digit(random)).collect::<String>();
+    (0..count).map(|_| group(random)).collect::<Vec<_>>().join(":")
+}
+
+/// A number up to the bound, as often a short one as a long one.
+fn number(bound: usize, random: &mut Random) -> String {
+    let below = [1, 10, 100, bound + 1][random.below(4)];
+    random.below(below).to_string()
 }

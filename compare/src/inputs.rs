@@ -20,6 +20,7 @@ pub fn groups(seed: u64, generated: usize) -> Vec<Group> {
         Group { name: "generated text lines", cases: (0..generated).map(|_| text(&mut random)).collect() },
         Group { name: "generated blocks", cases: (0..generated).map(|_| binary(&mut random)).collect() },
         Group { name: "damaged headers", cases: (0..generated).map(|_| damaged(&short, &mut random)).collect() },
+        Group { name: "whole lines at random", cases: (0..generated / 4).map(|_| headers::line(&mut random)).collect() },
     ]
 }
 
@@ -99,11 +100,12 @@ fn long_cases(header: &[u8], random: &mut Random) -> Vec<Vec<u8>> {
     all
 }
 
-/// A line, a block or a damaged header.
+/// A line, whole or not, a block or a damaged header.
 pub fn any(headers: &[Vec<u8>], random: &mut Random) -> Vec<u8> {
-    match random.below(3) {
-        0 => text(random),
-        1 => binary(random),
+    match random.below(4) {
+        0 => headers::line(random),
+        1 => text(random),
+        2 => binary(random),
         _ => damaged(headers, random),
     }
 }

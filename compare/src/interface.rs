@@ -1,74 +1,55 @@
 //! Comparisons through the C interface.
 use crate::connection::SIZE;
+use crate::outcome::Outcome;
 use crate::random::Random;
-use crate::{connection, expected, headers, hex, library, records, Left};
+use crate::{connection, expected, headers, hex, library, records, whole, Left, CONNECTION, NUMBERS};
 use second::Verdict;
 
-/// Lengths of lent buffers with room to spare.
-const NUMBERS: usize = 6;
-const CONNECTION: usize = SIZE + 3;
-
-/// How many were compared, and a first difference.
-pub struct Outcome {
-    pub name: &'static str,
-    pub compared: usize,
-    pub difference: Option<String>,
-}
-
-impl Outcome {
-    fn new(name: &'static str) -> Self {
-        Outcome { name, compared: 0, difference: None }
-    }
-
-    fn add(&mut self, result: Result<(), String>) {
-        self.compared += 1;
-        self.difference = self.difference.take().or(result.err());
-    }
-
-    fn same(&mut self, here: &Left, there: &Left, input: impl FnOnce() -> String) {
-        self.add(crate::same(here, there, input));
-    }
-
-    /// A header that was written is whole, says this connection, and both readers read it.
-    fn reads_back(&mut self, written: &Left, connection: &[u8]) {
-        if written.answer != 0 {
-            return;
-        }
-        let header = &written.bytes[..written.numbers[0] as usize];
-        self.add(match second::judge(header) {
-            Verdict::Accepted(read) if read.length == header.len() && connection::bytes(&read.record)[..] == *connection => Ok(()),
-            verdict => Err(format!("{} is read back as {verdict:?}", hex(header))),
-        });
-        self.same(&library::read(header, NUMBERS, CONNECTION), &expected::read(header, NUMBERS, CONNECTION), || hex(header));
-    }
-}
-
-/// Byte 13 with every value under LOCAL and PROXY, and a block of each of these lengths: every prefix around the head's end and the block's, also
-/// with bytes behind. Zeros are TLVs behind an address block; the bytes of `addresses` are none.
+/// Byte 13 with every value under LOCAL and PROXY, and a block of each of these lengths: every prefix, also with bytes behind; of the longest those
+/// around the head's end and the block's. Zeros are TLVs behind an address block; the bytes of `addresses` are none.
 pub fn bytes_13() -> Outcome {
     let mut outcome = Outcome::new("values of byte 13");
     for length in [0, 1, 2, 11, 12, 13, 14, 15, 35, 36, 39, 216, 219, 65_535] {
         for block in [vec![0; length], headers::addresses(length)] {
             for (command, family) in (0..=255).flat_map(|family| [(0x20, family), (0x21, family)]) {
                 let header = headers::block(command, family, &block);
-                let input = [&header[..], b"GET "].concat();
-                for end in (13..=input.len()).filter(|end| *end <= 17 || header.len() <= *end + 3) {
-                    let input = &input[..end];
-                    outcome.same(&library::read(input, NUMBERS, CONNECTION), &expected::read(input, NUMBERS, CONNECTION), || hex(input));
-                }
+                let in_the_middle = |end| header.len() > 300 && 17 < end && end + 3 < header.len();
+                whole::read_prefixes(&mut outcome, &[&header[..], b"GET "].concat(), |end| 13 <= end && !in_the_middle(end));
             }
         }
     }
     outcome
 }
 
-/// Record, version, length and TLV area of every input.
+/// Record, version, length and TLV area of every input, or how few bytes are missing.
 pub fn readings<'a>(inputs: impl Iterator<Item = &'a Vec<u8>>) -> Outcome {
-    let mut outcome = Outcome::new("whole readings");
+    let mut outcome = Outcome::new("");
+    let mut more = 0;
     for input in inputs {
-        outcome.same(&library::read(input, NUMBERS, CONNECTION), &expected::read(input, NUMBERS, CONNECTION), || hex(input));
+        let verdict = second::judge(input);
+        more += usize::from(matches!(verdict, Verdict::More(_)));
+        outcome.reads(input, verdict);
     }
+    outcome.name = format!("whole readings, {more} of them \"more\"");
     outcome
+}
+
+/// A header that was written is whole, says this connection, and both readers read it; where it fills its room, every prefix of it too.
+fn reads_back(outcome: &mut Outcome, written: &Left, connection: &[u8]) {
+    if written.answer != 0 {
+        return;
+    }
+    let header = &written.bytes[..written.numbers[0] as usize];
+    let verdict = second::judge(header);
+    outcome.add(match &verdict {
+        Verdict::Accepted(read) if read.length == header.len() && connection::bytes(&read.record)[..] == *connection => Ok(()),
+        verdict => Err(format!("{} is read back as {verdict:?}", hex(header))),
+    });
+    outcome.reads(header, verdict);
+    if header.len() == written.bytes.len() {
+        whole::read_prefixes(outcome, header, |_| true);
+        whole::walk(outcome, header);
+    }
 }
 
 /// Every place of each area, and two beyond it.
@@ -123,7 +104,7 @@ pub fn lines(random: &mut Random, count: usize) -> Outcome {
         let numbers = numbers(random);
         for room in rooms(104) {
             let here = library::write_v1(&connection, room, numbers);
-            outcome.reads_back(&here, &connection);
+            reads_back(&mut outcome, &here, &connection);
             outcome.same(&here, &expected::write_v1(&connection, room, numbers), || format!("{} with {numbers} numbers in {room} bytes", hex(&connection)));
         }
     }
@@ -143,7 +124,7 @@ pub fn blocks(random: &mut Random, count: usize) -> Outcome {
         let numbers = numbers(random);
         for room in rooms(16 + block + area.len()) {
             let here = library::write_v2(&connection, &area, room, numbers);
-            outcome.reads_back(&here, &connection);
+            reads_back(&mut outcome, &here, &connection);
             outcome.same(&here, &expected::write_v2(&connection, &area, room, numbers), || {
                 format!("{} with {} and {numbers} numbers in {room} bytes", hex(&connection), hex(&area))
             });

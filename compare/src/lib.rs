@@ -1,13 +1,15 @@
 //! The proved library and the second program on the same inputs: `library` calls the one through its C interface, `expected` says by the
-//! other what it must leave, and `interface` compares the two on inputs made in `inputs` and `headers`.
+//! other what it must leave, `interface` compares the two on inputs made in `inputs` and `headers`, and `whole` on every prefix of whole headers.
 pub mod connection;
 pub mod expected;
 pub mod headers;
 pub mod inputs;
 pub mod interface;
 pub mod library;
+pub mod outcome;
 pub mod random;
 pub mod records;
+pub mod whole;
 
 /// What a call leaves: its answer, the numbers, and the bytes of the buffer that it may write.
 #[derive(Clone, Debug, PartialEq, Eq)]
@@ -20,6 +22,10 @@ pub struct Left {
 /// What a lent buffer holds before a call.
 pub const BYTE: u8 = 0xA5;
 pub const NUMBER: u64 = 0xA5A5_A5A5_A5A5_A5A5;
+
+/// Lengths of lent buffers with room to spare.
+pub const NUMBERS: usize = 6;
+pub const CONNECTION: usize = connection::SIZE + 3;
 
 /// A first difference, or the number of comparisons without one.
 pub fn same(here: &Left, there: &Left, input: impl FnOnce() -> String) -> Result<(), String> {

@@ -1,7 +1,7 @@
 //! The long run: the C library against the second program until so many inputs are compared. A round's seed is printed with a difference.
 //! Usage: long HOW-MANY [FIRST-SEED]
 use compare::random::Random;
-use compare::{headers, inputs, interface};
+use compare::{headers, inputs, interface, whole};
 use std::time::{Duration, Instant};
 
 /// Headers read, and areas and records made, in a round.
@@ -39,8 +39,11 @@ fn round(short: &[Vec<u8>], seed: u64) -> Vec<(usize, Option<String>)> {
     // Neighbouring seeds would begin alike.
     let mut random = Random(seed.wrapping_mul(0x9E37_79B9_7F4A_7C15) | 1);
     let read: Vec<Vec<u8>> = (0..READ).map(|_| inputs::any(short, &mut random)).collect();
+    let whole = whole::among(read.iter());
     [
         interface::readings(read.iter()),
+        whole::prefixes(&whole, 1),
+        whole::walks(&whole),
         interface::steps(&mut random, MADE),
         interface::lookups(&mut random, MADE),
         interface::lines(&mut random, MADE),
