@@ -23,6 +23,7 @@ pub struct Reading {
 #[derive(Debug, PartialEq)]
 pub enum Answer {
     Accepted(Box<Reading>),
+    /// Without how few bytes are missing, which the library and the second program tell and the C parser does not.
     More,
     Refused,
 }
@@ -103,7 +104,7 @@ fn second_answer(verdict: &Verdict) -> Answer {
             let numbers = [header.length as u64, u64::from(header.version), area.start as u64, area.len() as u64];
             Answer::Accepted(Box::new(Reading { numbers, connection: connection::bytes(&header.record) }))
         }
-        Verdict::More => Answer::More,
+        Verdict::More(_) => Answer::More,
         Verdict::Refused { .. } => Answer::Refused,
     }
 }
