@@ -1,5 +1,5 @@
 /*
- * Takes PROXY protocol headers from sockets, a byte at a time, and prints who called.
+ * Takes PROXY protocol headers from sockets, and prints who called.
  */
 #include <arpa/inet.h>
 #include <ctype.h>
@@ -57,29 +57,21 @@ static void print_caller(const uint8_t *connection)
     }
 }
 
-/*
- * How many bytes to read before the next look: one, so that no payload is taken; and all that is missing, once a version 2 header
- * has said its length, so that a long one is not looked at byte by byte.
- */
-static size_t wanted(size_t received)
-{
-    if (received < 16 || bytes[0] != '\r')
-        return 1;
-    return 16 + (size_t)bytes[14] * 256 + bytes[15] - received;
-}
-
-/* Reads the header of one connection, and leaves its payload unread. */
+/* Reads the header of one connection, and leaves its payload unread (examples/read_exactly.c). */
 static void who_called(int connected)
 {
     uint64_t numbers[DAWNHAWSE_NUMBERS];
     uint8_t connection[DAWNHAWSE_CONNECTION];
-    uint32_t answer = DAWNHAWSE_MORE;
+    uint32_t answer;
     size_t received = 0;
-    ssize_t got;
 
-    while (answer == DAWNHAWSE_MORE && (got = read(connected, bytes + received, wanted(received))) > 0) {
-        received += (size_t)got;
+    for (;;) {
+        ssize_t got;
+
         answer = dawnhawse_read(bytes, received, numbers, DAWNHAWSE_NUMBERS, connection, sizeof connection);
+        if (answer != DAWNHAWSE_MORE || (got = read(connected, bytes + received, numbers[DAWNHAWSE_LEAST])) <= 0)
+            break;
+        received += (size_t)got;
     }
     if (answer == DAWNHAWSE_ACCEPTED) {
         printf("version %d, %d bytes: ", (int)numbers[DAWNHAWSE_HEADER_VERSION], (int)numbers[DAWNHAWSE_LENGTH]);

@@ -36,9 +36,9 @@
 #include <stdint.h>
 
 /* The release of the library; README says what each of its numbers counts. */
-#define DAWNHAWSE_RELEASE "0.2.0"
+#define DAWNHAWSE_RELEASE "0.3.0"
 #define DAWNHAWSE_RELEASE_MAJOR 0
-#define DAWNHAWSE_RELEASE_MINOR 2
+#define DAWNHAWSE_RELEASE_MINOR 3
 #define DAWNHAWSE_RELEASE_PATCH 0
 
 #ifdef __cplusplus
@@ -99,7 +99,7 @@ extern "C" {
 #define DAWNHAWSE_ABSENT 253
 #define DAWNHAWSE_GAVE_UP 254
 
-/* The bytes are the beginning of a header, and more bytes are needed. */
+/* The bytes are the beginning of a header, and at least numbers[DAWNHAWSE_LEAST] more are needed. */
 #define DAWNHAWSE_MORE 255
 
 /* ---- The numbers of an answer: uint64_t numbers[DAWNHAWSE_NUMBERS] ---- */
@@ -108,6 +108,7 @@ extern "C" {
 
 /* dawnhawse_read */
 #define DAWNHAWSE_LENGTH 0         /* accepted: the header's length, 15 to 65551; the payload starts there */
+#define DAWNHAWSE_LEAST 0          /* more: the fewest further bytes that could make a whole header, 1 to 65535 */
 #define DAWNHAWSE_PLACE 0          /* refused: the place of the first byte that rules a header out, counted from 0 */
 #define DAWNHAWSE_HEADER_VERSION 1 /* accepted: 1 or 2 */
 #define DAWNHAWSE_AREA_START 2     /* accepted: where the TLV area starts in the bytes read */
@@ -154,8 +155,17 @@ extern "C" {
 
 /*
  * What the bytes received so far are. Call it again with all bytes from the first on when more have come: no answer but
- * DAWNHAWSE_MORE changes when further bytes follow. Each call begins at the first byte, so who gets a long version 2 header in
- * many scraps may let them gather: once 16 bytes have come, its length is known to be 16 + 256 * bytes[14] + bytes[15].
+ * DAWNHAWSE_MORE changes when further bytes follow.
+ *
+ * DAWNHAWSE_MORE tells n, the smallest number of further bytes with which some continuation is a whole header: at least 1 and at
+ * most 65535. A caller who reads exactly n bytes each time, or fewer, never reads past the header. n may grow from one call to the
+ * next, as bytes rule out short headers ("PROXY " gives 9, "PROXY T" gives 15), so it is not to be counted down. No header is whole
+ * before n bytes have come, so scraps may gather until then: each call begins at the first byte. Once 16 bytes of version 2 have
+ * come, n is all that is missing.
+ *
+ * From a socket: call it with no bytes, and while it answers DAWNHAWSE_MORE, read numbers[DAWNHAWSE_LEAST] bytes behind those
+ * received and call it again; DAWNHAWSE_LONGEST_HEADER bytes are room enough, and when it accepts, all the payload is still in the
+ * socket (examples/read_exactly.c).
  *
  *   bytes, bytes_len             the bytes received so far; not altered
  *   numbers, numbers_len         at least DAWNHAWSE_NUMBERS elements
@@ -165,7 +175,7 @@ extern "C" {
  *   DAWNHAWSE_NO_ROOM    numbers has fewer than 4 elements or connection fewer than 221 bytes; both are as they were.
  *   DAWNHAWSE_ACCEPTED   numbers: length, version, the TLV area's start and length. The area is the header's last bytes, so
  *                        start is length where it is empty. connection: who called.
- *   DAWNHAWSE_MORE       numbers: 0, 0, 0, 0. connection: unspecified, all else zero.
+ *   DAWNHAWSE_MORE       numbers: n, 0, 0, 0. connection: unspecified, all else zero.
  *   1 to 9               DAWNHAWSE_REFUSED_..; numbers: place, 0, 0, 0. connection: unspecified, all else zero.
  *
  * Elements past the fourth and bytes past the 221st stay as they were.
