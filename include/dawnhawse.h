@@ -160,7 +160,7 @@ extern "C" {
  * DAWNHAWSE_MORE tells n, the smallest number of further bytes with which some continuation is a whole header: at least 1 and at
  * most 65535. A caller who reads exactly n bytes each time, or fewer, never reads past the header. n may grow from one call to the
  * next, as bytes rule out short headers ("PROXY " gives 9, "PROXY T" gives 15), so it is not to be counted down. No header is whole
- * before n bytes have come, so scraps may gather until then: each call begins at the first byte. Once 16 bytes of version 2 have
+ * before n further bytes have come, so scraps may gather until then: each call begins at the first byte. Once 16 bytes of version 2 have
  * come, n is all that is missing.
  *
  * From a socket: call it with no bytes, and while it answers DAWNHAWSE_MORE, read numbers[DAWNHAWSE_LEAST] bytes behind those

@@ -4,7 +4,7 @@ mod programs;
 
 use compare::inputs::{self, Group};
 use compare::random::Random;
-use compare::{headers, hex, interface, whole};
+use compare::{hex, interface, whole};
 use std::path::{Path, PathBuf};
 
 const SEED: u64 = 0x0D0A_0D0A_000D_0A51;
@@ -17,17 +17,11 @@ fn main() {
     let mut count = |difference: bool| if difference { failed += 1 } else { passed += 1 };
     let groups = inputs::groups(SEED, GENERATED);
     let headers = whole::among(groups.iter().flat_map(|group| &group.cases));
-    // A prefix with very many TLVs takes a while: of the long headers only those that are listed are read at every one.
-    let (short, long) = headers.iter().partition(|header| header.len() < 2_000);
-    let listed = headers::long();
-    let listed = listed.iter().map(|header| &header[..]).collect();
     let mut random = Random(SEED);
     for outcome in [
         interface::bytes_13(),
         interface::readings(groups.iter().flat_map(|group| &group.cases)),
-        whole::prefixes(&short, 1),
-        whole::prefixes(&listed, 1),
-        whole::prefixes(&long, 997),
+        whole::prefixes(&headers),
         whole::walks(&headers),
         interface::steps(&mut random, GENERATED / 20),
         interface::lookups(&mut random, GENERATED / 20),

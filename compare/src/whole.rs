@@ -17,15 +17,13 @@ pub fn among<'a>(inputs: impl Iterator<Item = &'a Vec<u8>>) -> BTreeSet<&'a [u8]
     inputs.filter_map(header).collect()
 }
 
-/// Every prefix of each header, or only each whose length is a multiple of `step`, and the header with payload behind it. What a header shares with
-/// the one before it is read once.
-pub fn prefixes(headers: &BTreeSet<&[u8]>, step: usize) -> Outcome {
-    let apart = if step == 1 { String::new() } else { format!(", {step} bytes apart,") };
-    let mut outcome = Outcome::new(&format!("prefixes{apart} of {} whole headers", headers.len()));
+/// Every prefix of each header, and the header with payload behind it. What a header shares with the one before it is read once.
+pub fn prefixes(headers: &BTreeSet<&[u8]>) -> Outcome {
+    let mut outcome = Outcome::new(&format!("prefixes of {} whole headers", headers.len()));
     let mut before = None;
     for header in headers {
         let known = before.map_or(0, |before| 1 + shared(header, before));
-        read_prefixes(&mut outcome, &[header, PAYLOAD].concat(), |end| known <= end && (end % step == 0 || header.len() <= end));
+        read_prefixes(&mut outcome, &[header, PAYLOAD].concat(), |end| known <= end);
         before = Some(header);
     }
     outcome

@@ -42,7 +42,7 @@ fn round(short: &[Vec<u8>], seed: u64) -> Vec<(usize, Option<String>)> {
     let whole = whole::among(read.iter());
     [
         interface::readings(read.iter()),
-        whole::prefixes(&whole, 1),
+        whole::prefixes(&whole),
         whole::walks(&whole),
         interface::steps(&mut random, MADE),
         interface::lookups(&mut random, MADE),

@@ -15,7 +15,7 @@ ghost use Rattle.exact.specs.Field.{shift};
 ghost use Rattle.fields.specs.BlockFields.{block as blockField, fromCommand, fromFamily, commandRest, local as underLocal};
 ghost use Rattle.answer.specs.Sight.{Sees};
 
-// From byte 13 on, under LOCAL: it is not looked at.
+// From byte 13 on, under LOCAL: it is not looked at. Before it the least is the byte and a length of 0: 1 + 2.
 fn local(s: &[u8]) -> Seen
     ensures { λ r. ⌜ Sees (now (s .entry)) (shift 13 (commandRest underLocal .verdict (drop 13 (now (s .entry))))) r ⌝ }
 {
@@ -25,7 +25,7 @@ fn local(s: &[u8]) -> Seen
     from_length(s, Kind::Local)
 }
 
-// From byte 13 on, under PROXY.
+// From byte 13 on, under PROXY. Before it the least is an unspecified family and a length of 0: 1 + 2.
 fn proxy(s: &[u8]) -> Seen
     ensures { λ r. ⌜ Sees (now (s .entry)) (shift 13 (fromFamily .verdict (drop 13 (now (s .entry))))) r ⌝ }
 {
@@ -38,7 +38,7 @@ fn proxy(s: &[u8]) -> Seen
     }
 }
 
-// From byte 12 on.
+// From byte 12 on. Before it the least is a command, byte 13 and a length of 0: 1 + 1 + 2.
 fn command(s: &[u8]) -> Seen
     ensures { λ r. ⌜ Sees (now (s .entry)) (shift 12 (fromCommand .verdict (drop 12 (now (s .entry))))) r ⌝ }
 {
@@ -57,6 +57,7 @@ pub fn block(s: &[u8]) -> Seen
     ensures { λ r. ⌜ Sees (now (s .entry)) (blockField .verdict (now (s .entry))) r ⌝ }
 {
     match literal(s, b"\r\n\r\n\0\r\nQUIT\n") {
+        // The command, byte 13, and a length of 0: 1 + 1 + 2.
         Scan::More(least) => more(least + 4),
         Scan::Refused(place) => refused(Refusal::Start, place),
         Scan::Accepted(_, _) => command(s),

@@ -9,9 +9,9 @@ use Rattle.exact.specs.Pick.{pick}
 use Rattle.colon_part.specs.declared.Part.{Part}
 use Rattle.colon_part.specs.declared.Part.the-variants.{More, Refused, End, Group}
 
--- how few bytes could follow a group: the end, or "::" and the end
-abbrev pub leastBehind : ℕ → ℕ → ℕ
-leastBehind count gap = pick (eqb gap 0) (pick (eqb count 8) 1 3) 1
+-- how few bytes could follow a group, where at most eight have come: the end, or "::" and the end
+abbrev pub leastCounted : ℕ → ℕ → ℕ
+leastCounted count gap = pick (eqb gap 0) (pick (eqb count 8) 1 3) 1
 
 -- at a place of an address that the byte `end` ends, with so many groups
 module _ (end : ℕ) (s : List ℕ) where
@@ -35,4 +35,4 @@ module _ (end : ℕ) (s : List ℕ) where
       pick (ltb at (length s))
       (pick (eqb (getD s at 0) (code ":")) (pick (ltb count 8) (behindColon (at + 1) count gap) (Refused at))
       (pick (eqb (getD s at 0) end) (End at count gap) (Refused at)))
-      (More (leastBehind count gap))
+      (More (leastCounted count gap))

@@ -2,7 +2,7 @@
 // No public function has a `requires`.
 ghost use mathlib.Core.Path.{_≡_};
 ghost use Prim.Native.Nat.{_<_};
-ghost use Rattle.colon_part.specs.Part.{leastBehind, behindDouble, behindColon, partAt};
+ghost use Rattle.colon_part.specs.Part.{leastCounted, behindDouble, behindColon, partAt};
 
 // What a colon part leads to. count counts the groups so far; "::" counts as one of them, and gap counts those up to and with it; gap is 0 while
 // it has not come.
@@ -17,9 +17,9 @@ pub enum Part {
     Group { at: usize, count: usize, gap: usize },
 }
 
-// How few bytes could finish an address behind a group: its end, or "::" and its end.
+// How few bytes could finish an address behind a group, where at most eight have come: its end, or "::" and its end.
 pub fn least_behind(count: usize, gap: usize) -> usize
-    ensures { λ r. ⌜ r ≡ leastBehind count gap ⌝ }
+    ensures { λ r. ⌜ r ≡ leastCounted count gap ⌝ }
 {
     if gap == 0 {
         if count == 8 { 1 } else { 3 }

@@ -2,16 +2,14 @@
 use mathlib.Core.Path.{_≡_, refl, sym, ap, subst}
 use mathlib.Core.Bool.{Bool}
 use mathlib.Core.List.{List, [], _∷_, _++_}
-use Prim.Native.Nat.{ℕ, _≤_}
+use Prim.Native.Nat.{ℕ, _+_}
 use native.Mathlib.Omega.{arith}
 use lib.Dec.{eqb}
 use borrow.Author.Tests.{eqb-true, eqb-false, eq-eqb}
 use lib.ListN.{length, length-append}
-use Rattle.exact.specs.Claim.{AllBytes, Claim}
-use Rattle.exact.specs.Scans.{told}
-use Rattle.exact.specs.declared.Scan.{Scan}
-use Rattle.exact.specs.declared.Scan.the-variants.{More}
-use Rattle.exact.specs.Field.{Least, Exact}
+use Rattle.exact.specs.Claim.{Verdict, accepted, more, refused, AllBytes}
+use Rattle.exact.specs.Verdicts.{Few}
+use Rattle.exact.specs.Field.{Least, flat, Exact}
 use Rattle.exact.specs.MachineLaws.{machine-exact, least-at, Sound, Attains, NoLess, Leasts}
 use Rattle.exact.specs.Machine.{leaf}
 use Rattle.exact.specs.Pick.{pick-by}
@@ -102,11 +100,16 @@ starts-text first k v x w =
       head = λ c f a l. let e = l .0 in ap first cc;
     }
 
--- a scan asks no more bytes than the text has
-pub literal-most : (w s : List ℕ) {r : Scan} {n : ℕ} → ((k : ℕ) → Claim (Literal 0 w) (λ u. k) (told k 0 r) s) → r ≡ More n → n ≤ length w
-literal-most w s {n = n} claims e =
-    let x = (rw e at (claims 0)) .1 .0 in
-    let size = x .2 in
-    let sum = length-append s (x .0) in
-    let whole : length (s ++ x .0) ≡ length w = ap length (x .4 .0) in
-    omega arith
+-- no count is over that of the whole text
+pub literal-few : {A : Type 0} (k m : ℕ) (v : A) (w s : List ℕ) → Few (length w + m) (literal k m v w s)
+literal-few {A} k m v w s = by (literal k m v w s) (literal-exact k v (flat m) w s)
+  where
+    by : (x : Verdict A) → Exact (leaf k (Literal v w)) (flat m) x s → Few (length w + m) x
+    by (accepted a n) e = tt
+    by (more n) e =
+        let o = e .least in
+        let size = o .size in
+        let all : length (s ++ o .tail) ≡ length w = ap length (o .whole .0) in
+        let sum = length-append s (o .tail) in
+        omega arith
+    by (refused i p) e = tt

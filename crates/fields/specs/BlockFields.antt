@@ -148,7 +148,7 @@ fit-addresses k n f l =
 abbrev pub addressed : Kind → Headers
 addressed k = (blockLengthField k then addresses k) (fit-addresses k)
 
--- behind byte 13 under PROXY; the table gives no local
+-- behind byte 13, for the kind that it says; for local under LOCAL, where it is not looked at
 abbrev pub familyRest : Kind → Headers
 familyRest Local = skipped (bare Local)
 familyRest Unspecified = skipped (bare Unspecified)

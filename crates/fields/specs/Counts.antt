@@ -1,7 +1,7 @@
 -- For proofs. The counts of a block whose length is not whole yet: none is over 65,535.
 use mathlib.Core.Path.{_≡_, refl, ap, _∙_}
 use mathlib.Core.Bool.{Bool, true}
-use mathlib.Core.List.{List, [], _∷_, _++_}
+use mathlib.Core.List.{List, [], _∷_}
 use mathlib.Core.Option.{Option}
 use Prim.Native.Nat.{ℕ, suc, _+_, _≤_, _<_}
 use native.Mathlib.Omega.{arith}
@@ -13,10 +13,11 @@ use Rattle.exact.specs.Field.{Exact, after}
 use Rattle.exact.specs.Machine.{Move, moved, run}
 use Rattle.exact.specs.Pick.{pick-by}
 use Rattle.exact.specs.Byte.{OneByte, stepByte}
+use Rattle.exact.specs.LiteralLaws.{literal-few}
 use Rattle.exact.specs.Network.{number}
 use Rattle.exact.specs.Number.{any, Number, low}
 use Rattle.exact.specs.Parser.{Parser, Fit, _then_}
-use Rattle.exact.specs.Verdicts.{Few, few-shift, run-few}
+use Rattle.exact.specs.Verdicts.{Few, few-shift, few-more, run-few}
 use Rattle.record.specs.declared.Kind.{Kind}
 use Rattle.record.specs.declared.Kind.the-variants.{Local, Unspecified, Ip4, Ip6, Unix}
 use Rattle.record.specs.declared.Record.{Record}
@@ -48,17 +49,8 @@ low-then {A} {u = u} P Q fit l k first rest t h = by (P .verdict t) (P .exact t)
 
 -- ── the leaves ──
 low-word : (k m x : ℕ) (w : List ℕ) (bytes : AllBytes (x ∷ w)) (l : ℕ) → length (x ∷ w) + m ≤ 65535 → Low l (word k m x w bytes .verdict)
-low-word k m x w bytes l small t h = by (word k m x w bytes .verdict t) (word k m x w bytes .exact t)
-  where
-    by : (v : Verdict ℕ) → Exact (word k m x w bytes .field) (λ a. m) v t → Few 65535 v
-    by (accepted a n) e = tt
-    by (more n) e =
-        let o = e .least in
-        let size = o .size in
-        let all : length (t ++ o .tail) ≡ length (x ∷ w) = ap length (o .whole .0) in
-        let sum = length-append t (o .tail) in
-        omega arith
-    by (refused i p) e = tt
+low-word k m x w bytes l small t h =
+    few-more (length (x ∷ w) + m) 65535 (word k m x w bytes .verdict t) small (literal-few k m 0 (x ∷ w) t)
 
 low-byte : {A : Type 0} (table : ℕ → Option A) (k least l : ℕ) → least ≤ 65535 → Low l (λ t. run k (stepByte table) (λ q. least) t tt)
 low-byte table k least l small t h = run-few 65535 k (stepByte table) (λ q. least) (λ q. small) t tt

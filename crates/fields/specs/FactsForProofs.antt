@@ -289,7 +289,7 @@ module _ (f : List ℕ) (h : ℕ) (high : h < 256) where
         refl,
       ))
 
-line-first : (f : List ℕ) (r : Record) → Line f r → getD f 0 0 ≡ 80
+pub line-first : (f : List ℕ) (r : Record) → Line f r → getD f 0 0 ≡ 80
 line-first f r (inl l) = ⊎-elim (λ e. rw e) (λ w. rw (w .split)) (l .0)
 line-first f r (inr (inl l)) = rw (l .split)
 line-first f r (inr (inr l)) = rw (l .split)

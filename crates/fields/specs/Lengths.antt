@@ -1,4 +1,5 @@
--- For proofs. The length of a block: the fields behind it ask as many bytes as it says, so the smallest length that is allowed asks the fewest.
+-- The length of a block: which are allowed, and how few bytes they ask. The fields behind a length ask as many bytes as it says, so the smallest that is
+-- allowed asks the fewest.
 use mathlib.Core.Path.{_≡_, refl}
 use mathlib.Core.Bool.{Bool, true, false}
 use mathlib.Core.Logic.{_⊎_, inl, inr, ⊎-elim}
@@ -10,6 +11,10 @@ use Rattle.exact.specs.Network.{number}
 use Rattle.exact.specs.Number.{number16}
 use Rattle.exact.specs.Parser.{Parser}
 use Rattle.exact.specs.Pick.{pick, pick-by}
+
+-- "L must be A, or at least A + 3"
+abbrev pub fits : ℕ → ℕ → Bool
+fits a n = pick (eqb n a) true (leb (a + 3) n)
 
 -- a length asks as many bytes behind it
 abbrev pub bytesOf : ℕ → ℕ
@@ -36,10 +41,6 @@ module _ (good : ℕ → Bool) (a : ℕ) (small : a < 256) (lowest-good : (h : �
 
     abbrev pub lengthField : Parser ℕ bytesOf
     lengthField = number16 good 8 bytesOf (λ h. (lowest a h, lowest-small h, lowest-good h, lowest-best h)) (0, omega arith, highest-best)
-
--- "L must be A, or at least A + 3"
-abbrev pub fits : ℕ → ℕ → Bool
-fits a n = pick (eqb n a) true (leb (a + 3) n)
 
 pub fits-either : (a n : ℕ) → fits a n ≡ true → (n ≡ a) ⊎ (a + 3 ≤ n)
 fits-either a n = by (eqb n a) refl

@@ -6,11 +6,12 @@ use mathlib.Core.Logic.{inl, inr}
 use Prim.Native.Nat.{ℕ, zero, suc, _+_, _≤_, _<_}
 use native.Mathlib.Omega.{arith}
 use lib.Dec.{ltb}
-use lib.ListN.{length, take, drop, length-append, length-take, take-append-drop}
+use lib.ListN.{length, take, drop, getD, List·getD-append, length-append, length-take, take-append-drop}
 use lib.Seq.{length-take-le, take-length, take-all, take-take}
 use borrow.Author.Tests.{ltb-true, ltb-false}
 use Rattle.exact.specs.Ascii.{ascii}
 use Rattle.exact.specs.Claim.{Verdict, accepted, more, refused, AllBytes, Heads}
+use Rattle.exact.specs.Network.{numberAt}
 use Rattle.exact.specs.Parser.{bytes-back}
 use Rattle.exact.specs.Pick.{pick}
 use Rattle.exact.specs.Verdicts.{few-count}
@@ -22,7 +23,7 @@ use Rattle.header.specs.Demand.{Judges}
 use Rattle.fields.specs.BlockFields.{block}
 use Rattle.fields.specs.Counts.{block-low}
 use Rattle.fields.specs.Exactness.{lineField, isP, verdict, judges, judges-only, judges-within, whole-bytes, one-header, bytes-enough}
-use Rattle.fields.specs.FactsForProofs.{block-first}
+use Rattle.fields.specs.FactsForProofs.{block-bounds, line-first, block-first}
 use Rattle.fields.specs.Facts.{longest-line, header-length}
 
 -- ── the count ──
@@ -77,12 +78,53 @@ more-finishes n s x =
     let sum : length (s ++ f .0) ≡ length s + n = length-append s (f .0) ∙ ap (λ (m : ℕ). length s + m) (f .2) in
     (f .0, f .1, f .2, f .3, (omega arith, rw (take-all (length s + n) (s ++ f .0) (omega arith)) (f .4)))
 
+-- so the longest header is room enough for the bytes so far and those that are asked
+pub more-room : (n : ℕ) (s : List ℕ) → Judges (more n) s → length s + n ≤ 65551
+more-room n s x =
+    let f = x .1 .0 in
+    let sum = length-append s (f .0) in
+    let size = f .2 in
+    let most = header-length (s ++ f .0) (f .3) (f .4) .1 in
+    omega arith
+
+-- and once the sixteen first bytes of a version 2 header are there, all that is missing is asked
+pub block-rest : (n : ℕ) (s : List ℕ) → Judges (more n) s → getD s 0 0 ≡ 13 → 16 ≤ length s → length s + n ≡ 16 + numberAt s 14
+block-rest n s x first long = by (x .1 .0 .4)
+  where
+    t : List ℕ
+    t = x .1 .0 .0
+
+    h : Header
+    h = x .1 .0 .3
+
+    by : Whole (s ++ t) h → length s + n ≡ 16 + numberAt s 14
+    by (inl l) =
+        let other = line-first (s ++ t) (h .«record») (l .0) in
+        let same = List·getD-append s t 0 0 (omega arith) in
+        absurd (omega arith)
+    by (inr b) =
+        let framed = block-bounds (s ++ t) (h .«record») (h .area) (b .0) .0 in
+        let high = List·getD-append s t 0 14 (omega arith) in
+        let low = List·getD-append s t 0 15 (omega arith) in
+        let sum = length-append s t in
+        let size = x .1 .0 .2 in
+        omega arith
+
 -- "one byte taken from the continuation leaves n - 1 or more"
-pub more-falls : (n m c : ℕ) (s : List ℕ) → Judges (more n) s → Judges (more m) (s ++ c ∷ []) → n ≤ 1 + m
-more-falls n m c s x y =
+pub one-byte-less : (n m c : ℕ) (s : List ℕ) → Judges (more n) s → Judges (more m) (s ++ c ∷ []) → n ≤ 1 + m
+one-byte-less n m c s x y =
     let f = y .1 .0 in
     let whole : Whole (s ++ c ∷ f .0) (f .3) = subst (λ (g : List ℕ). Whole g (f .3)) (append-assoc s (c ∷ []) (f .0)) (f .4) in
     let no-fewer : 1 + m < n → ⊥ = λ few. x .1 .1 (1 + m) few (c ∷ f .0, bytes-back s (c ∷ f .0) (whole-bytes _ _ whole), (let size = f .2 in omega arith), f .3, whole) in
+    omega arith
+
+-- and a byte that ends the header was the only one that was missing
+pub last-byte : (n j c : ℕ) (a : Header) (s : List ℕ) → Judges (more n) s → Judges (accepted a j) (s ++ c ∷ []) → n ≡ 1
+last-byte n j c a s x y =
+    let some = more-some n s x in
+    let end = judges-within s (c ∷ []) n j a x y in
+    let inside = y .0 in
+    let sum = length-append s (c ∷ []) in
     omega arith
 
 -- ── a caller who reads from a stream ──

@@ -12,7 +12,7 @@ use Rattle.exact.specs.Machine.{dead}
 use Rattle.exact.specs.declared.Scan.{Scan}
 use Rattle.exact.specs.declared.Scan.the-variants.{More, Refused}
 use Rattle.exact.specs.Pick.{pick, pick-by}
-use Rattle.colon_part.specs.Part.{leastBehind as leastCounted}
+use Rattle.colon_part.specs.Part.{leastCounted}
 use Rattle.hex.specs.Hex.{hexOf}
 use Rattle.ip6.specs.Machine.{Gathered, push, digits, behind, leastBehind, leastDigit, inside, follow}
 use Rattle.ip6.specs.Steps.{inside-digit, inside-follow}

@@ -10,7 +10,7 @@ use lib.Seq.{drop-set-lt, drop-drop, take-suc-set, take-append-le, drop-append-l
 use lib.Dec.{eqb}
 use borrow.Author.Tests.{lt-ltb, le-ltb, ne-eqb}
 use Rattle.ip6.specs.Machine.{plain, gapped, push, room, leastBehind}
-use Rattle.colon_part.specs.Part.{leastBehind as leastCounted}
+use Rattle.colon_part.specs.Part.{leastCounted}
 use Rattle.exact.specs.Pick.{pick}
 use Rattle.ip6.specs.Partial.{Partial, sofar, Sized, seenAt, gatheredOf}
 use Rattle.ip6.proofs.Spread.{count-length}

@@ -20,6 +20,7 @@ fn from_tcp(s: &[u8], at: usize) -> Seen
     ensures { λ r. ⌜ Sees (now (s .entry)) (shift at (tcps address4 address6 .verdict (drop at (now (s .entry))))) r ⌝ }
 {
     match literal(&s[at..], b"TCP") {
+        // "6 :: :: 0 0" and CR LF are the shortest rest: 2 + 3 + 3 + 2 + 1 + 2.
         Scan::More(least) => more(least + 13),
         Scan::Refused(place) => refused(Refusal::Word, at + place),
         Scan::Accepted(_, n) => from_family(s, at + n),
@@ -31,6 +32,7 @@ fn from_unknown(s: &[u8], at: usize) -> Seen
     ensures { λ r. ⌜ Sees (now (s .entry)) (shift at (unknown .verdict (drop at (now (s .entry))))) r ⌝ }
 {
     match literal(&s[at..], b"UNKNOWN") {
+        // CR LF.
         Scan::More(least) => more(least + 2),
         Scan::Refused(place) => refused(Refusal::Word, at + place),
         Scan::Accepted(_, n) => from_unknown_end(s, at + n),
@@ -42,6 +44,7 @@ fn from_word(s: &[u8], at: usize) -> Seen
     ensures { λ r. ⌜ Sees (now (s .entry)) (shift at (words address4 address6 .verdict (drop at (now (s .entry))))) r ⌝ }
 {
     if s.len() <= at {
+        // "UNKNOWN" and CR LF: 7 + 2.
         return more(9);
     }
     if s[at] == b'U' {
@@ -56,6 +59,7 @@ pub fn line(s: &[u8]) -> Seen
     ensures { λ r. ⌜ Sees (now (s .entry)) (lineField .verdict (now (s .entry))) r ⌝ }
 {
     match literal(s, b"PROXY ") {
+        // "UNKNOWN" and CR LF.
         Scan::More(least) => more(least + 9),
         Scan::Refused(place) => refused(Refusal::Start, place),
         Scan::Accepted(_, n) => from_word(s, n),

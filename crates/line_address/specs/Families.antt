@@ -26,10 +26,10 @@ abbrev pub field : Bool → AddressParser
 field true = address6
 field false = address4
 
--- how many bytes the shortest address has with the space that ends it: "0.0.0.0 " or ":: "
-abbrev pub shortest : Bool → ℕ
-shortest true = 3
-shortest false = 8
+-- how many bytes the shortestAddress address has with the space that ends it: "0.0.0.0 " or ":: "
+abbrev pub shortestAddress : Bool → ℕ
+shortestAddress true = 3
+shortestAddress false = 8
 
 -- the bytes of an address, in the first n of an array; m is what is asked behind it
 abbrev pub toldBytes : (n m : ℕ) → Scan → List ℕ → Verdict (List ℕ)

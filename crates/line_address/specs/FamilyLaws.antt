@@ -8,13 +8,13 @@ use Rattle.exact.specs.Verdicts.{Few, few-more, few-after}
 use Rattle.ip4.specs.Ip4Leaf.{ip4-few}
 use Rattle.ip6.specs.Leasts.{address-few as ip6-few}
 use Rattle.fields.specs.Exactness.{groups}
-use Rattle.line_address.specs.Families.{field, shortest}
+use Rattle.line_address.specs.Families.{field, shortestAddress}
 
-pub shortest-least : (six : Bool) (m : ℕ) → field six m .least ≡ shortest six + m
+pub shortest-least : (six : Bool) (m : ℕ) → field six m .least ≡ shortestAddress six + m
 shortest-least true m = refl
 shortest-least false m = refl
 
-pub shortest-most : (six : Bool) → shortest six ≤ 8
+pub shortest-most : (six : Bool) → shortestAddress six ≤ 8
 shortest-most true = omega arith
 shortest-most false = omega arith
 

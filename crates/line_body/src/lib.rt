@@ -18,7 +18,7 @@ ghost use Rattle.exact.specs.Field.{shift};
 ghost use Rattle.fields.specs.LineFields.{lined, lineFeed, fromDestinationPort, fromSourcePort, fromDestination, fromSource, unknownEnd, families, fromRest};
 ghost use Rattle.fields.specs.Exactness.{address4, address6};
 ghost use Rattle.answer.specs.Sight.{callerRecord, callerOf, Sees};
-ghost use Rattle.line_address.specs.Families.{tcpKind, width, field, shortest, padded};
+ghost use Rattle.line_address.specs.Families.{tcpKind, width, field, shortestAddress, padded};
 ghost use Rattle.line_body.specs.Stages.{fromSpace, isFamily};
 
 // TCP6 if six, else TCP4.
@@ -32,9 +32,9 @@ fn tcp_kind(six: bool) -> Kind
     }
 }
 
-// How many bytes the shortest address has, with the space that ends it.
+// How many bytes the shortestAddress address has, with the space that ends it.
 fn shortest_address(six: bool) -> usize
-    ensures { λ r. ⌜ r ≡ shortest six ⌝ }
+    ensures { λ r. ⌜ r ≡ shortestAddress six ⌝ }
 {
     if six { 3 } else { 8 }
 }
@@ -72,6 +72,7 @@ fn from_destination_port(
     ensures { λ r. ⌜ Sees (now (s .entry)) (shift at (fromDestinationPort (tcpKind six) (take (width six) from) (take (width six) to) p .verdict (drop at (now (s .entry))))) r ⌝ }
 {
     match decimal::decimal(&s[at..], 65535, b'\r') {
+        // LF.
         Scan::More(least) => more(least + 1),
         Scan::Refused(place) => refused(Refusal::Port, at + place),
         Scan::Accepted(q, n) => {
@@ -92,6 +93,7 @@ fn from_source_port(s: &[u8], at: usize, six: bool, from: [u8; 16], to: [u8; 16]
     ensures { λ r. ⌜ Sees (now (s .entry)) (shift at (fromSourcePort (tcpKind six) (take (width six) from) (take (width six) to) .verdict (drop at (now (s .entry))))) r ⌝ }
 {
     match decimal::decimal(&s[at..], 65535, b' ') {
+        // "0" and CR LF: 1 + 2.
         Scan::More(least) => more(least + 3),
         Scan::Refused(place) => refused(Refusal::Port, at + place),
         Scan::Accepted(p, n) => from_destination_port(s, at + n, six, from, to, p as u16),
@@ -104,6 +106,7 @@ fn from_destination(s: &[u8], at: usize, six: bool, from: [u8; 16]) -> Seen
 {
     let mut to = [0u8; 16];
     match address(&s[at..], six, &mut to) {
+        // "0 0" and CR LF: 2 + 1 + 2.
         Scan::More(least) => more(least + 5),
         Scan::Refused(place) => refused(Refusal::Address, at + place),
         Scan::Accepted(_, n) => from_source_port(s, at + n, six, from, to),
@@ -116,6 +119,7 @@ fn from_source(s: &[u8], at: usize, six: bool) -> Seen
 {
     let mut from = [0u8; 16];
     match address(&s[at..], six, &mut from) {
+        // The destination, "0 0" and CR LF.
         Scan::More(least) => more(least + shortest_address(six) + 5),
         Scan::Refused(place) => refused(Refusal::Address, at + place),
         Scan::Accepted(_, n) => from_destination(s, at + n, six, from),
@@ -127,6 +131,7 @@ fn from_space(s: &[u8], at: usize, six: bool) -> Seen
     ensures { λ r. ⌜ Sees (now (s .entry)) (shift at (fromSpace six .verdict (drop at (now (s .entry))))) r ⌝ }
 {
     if s.len() <= at {
+        // The space, two addresses, "0 0" and CR LF.
         return more(2 * shortest_address(six) + 6);
     }
     if s[at] == b' ' {
@@ -147,6 +152,7 @@ pub fn from_family(s: &[u8], at: usize) -> Seen
     ensures { λ r. ⌜ Sees (now (s .entry)) (shift at (families address4 address6 .verdict (drop at (now (s .entry))))) r ⌝ }
 {
     if s.len() <= at {
+        // "6 :: :: 0 0" and CR LF: 2 + 3 + 3 + 2 + 1 + 2.
         return more(13);
     }
     let c = s[at];

@@ -21,6 +21,7 @@ pub fn see(s: &[u8]) -> Seen
     ensures caller { λ r. ⌜ r .caller ≡ callerBy (verdictOn (now (s .entry))) ⌝ }
 {
     if s.len() == 0 {
+        // "PROXY UNKNOWN" and CR LF: 13 + 2.
         return more(15);
     }
     if s[0] == b'P' { line(s) } else { block(s) }

@@ -7,9 +7,11 @@ use borrow.Author.Needs.{needs}
 use lib.ListN.{length, drop}
 use Rattle.exact.specs.Claim.{Verdict, accepted, more, refused}
 use Rattle.exact.specs.Field.{Exact, shift, flat}
-use Rattle.exact.specs.LiteralLaws.{literal-most}
+use Rattle.exact.specs.LiteralLaws.{literal-few}
+use Rattle.exact.specs.Verdicts.{few-count}
 use Rattle.exact.specs.Scans.{told}
 use Rattle.exact.specs.declared.Scan.{Scan}
+use Rattle.header.specs.Block.{signature}
 use Rattle.fields.specs.LineFields.{Headers}
 use Rattle.fields.specs.BlockFields.{signatureField, fromCommand}
 use Rattle.answer.specs.StageLaws.{sees-as, as-first}
@@ -37,7 +39,7 @@ module _ (c : tie.After-literal) where
 add-more : tie.Need-add-more
 add-more c =
     let ran = c .before .before .before in
-    omega (arith, literal-most _ _ (ran .literal .ensures .1) (c .before .least .given .1))
+    omega (arith, few-count 16 (found ran _ (c .before .least .given .1)) (literal-few 1 4 0 signature (text ran)))
 
 returns : tie.Need-returns
 returns c =

@@ -6,7 +6,9 @@ use native.Mathlib.Omega.{arith}
 use lib.ListN.{drop}
 use Rattle.exact.specs.Scans.{told}
 use Rattle.exact.specs.Stage.{stage-inside, stage-place}
-use Rattle.exact.specs.LiteralLaws.{literal-most}
+use Rattle.exact.specs.Ascii.{ascii}
+use Rattle.exact.specs.LiteralLaws.{literal-few}
+use Rattle.exact.specs.Verdicts.{few-count}
 use Rattle.exact.specs.declared.Scan.{Scan}
 use Rattle.fields.specs.Exactness.{address4, address6}
 use Rattle.fields.specs.LineFields.{Headers, tcpWord, families}
@@ -32,7 +34,7 @@ module _ (c : tie.After-literal) where
   found x e = said 2 13 (tcpWord 13 .verdict) text at e (c .literal .ensures .0 2 13)
 
 add-more : tie.Need-add-more
-add-more c = let ran = c .before .before .before in omega (arith, literal-most _ _ (ran .literal .ensures .1) (c .before .least .given .1))
+add-more c = let ran = c .before .before .before in omega (arith, few-count 16 (found ran _ (c .before .least .given .1)) (literal-few 2 13 0 (ascii "TCP") (drop (at ran) (text ran))))
 
 add-refused : tie.Need-add-refused
 add-refused c = let ran = c .before .before .before in let h = stage-place (tcpWord 13) (text ran) (at ran) (start ran .pre) 2 _ (found ran _ (c .before .place .given .1)) in omega arith

@@ -4,7 +4,9 @@ use mathlib.Core.Path.{_≡_, sym, ap, _∙_}
 use mathlib.Core.List.{List}
 use Rattle.exact.specs.Claim.{accepted, more, refused}
 use native.Mathlib.Omega.{arith}
-use Rattle.exact.specs.LiteralLaws.{literal-most}
+use Rattle.exact.specs.Ascii.{ascii}
+use Rattle.exact.specs.LiteralLaws.{literal-few}
+use Rattle.exact.specs.Verdicts.{few-count}
 use Rattle.exact.specs.Scans.{told}
 use Rattle.exact.specs.declared.Scan.{Scan}
 use Rattle.fields.specs.Exactness.{address4, address6}
@@ -22,7 +24,7 @@ module _ (c : tie.After-literal) where
   found x e = ap (told 1 9) (sym e) ∙ c .literal .ensures .0 1 9
 
 add-more : tie.Need-add-more
-add-more c = let ran = c .before .before .before in omega (arith, literal-most _ _ (ran .literal .ensures .1) (c .before .least .given .1))
+add-more c = let ran = c .before .before .before in omega (arith, few-count 15 (found ran _ (c .before .least .given .1)) (literal-few 1 9 0 (ascii "PROXY ") (text ran)))
 
 returns : tie.Need-returns
 returns c = let ran = c .before .before .before .before in as-first (proxyWord 9) (λ x. words address4 address6) (more _) (found ran _ (c .before .before .least .given .1)) (c .more .ensures (text ran))

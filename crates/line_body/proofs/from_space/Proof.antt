@@ -9,14 +9,14 @@ use Rattle.exact.specs.Claim.{more}
 use Rattle.fields.specs.LineFields.{fromSource}
 use Rattle.answer.specs.StageLaws.{sees-as, as-end}
 use Rattle.line_address.specs.FamilyLaws.{shortest-most}
-use Rattle.line_address.specs.Families.{tcpKind, field, shortest}
+use Rattle.line_address.specs.Families.{tcpKind, field, shortestAddress}
 use Rattle.line_body.specs.Stages.{fromSpace}
 use Rattle.line_body.proofs.Choices.{byte-first, byte-other, word-only, word-other}
 use Rattle.line_body.proofs.from_space.Statement.{statement}
 use Rattle.line_body.proofs.from_space.Tie as tie
 
 -- the space, two addresses, two ports and CR LF
-asked : (six : Bool) (n : ℕ) → n ≡ shortest six → more (2 * n + 6) ≡ fromSpace six .verdict []
+asked : (six : Bool) (n : ℕ) → n ≡ shortestAddress six → more (2 * n + 6) ≡ fromSpace six .verdict []
 asked true n e = ap (λ (m : ℕ). more (2 * m + 6)) e
 asked false n e = ap (λ (m : ℕ). more (2 * m + 6)) e
 
