@@ -1,4 +1,4 @@
--- Document 02, K10: what "more n" tells a caller who reads from a stream, so that its reads do not swallow payload.
+-- Document 02, K10, "Our first read must not swallow payload": what "more n" tells a caller who reads from a stream.
 use mathlib.Core.Path.{_≡_, refl, sym, ap, _∙_, subst}
 use mathlib.Core.Bool.{Bool, true, false}
 use mathlib.Core.List.{List, [], _∷_, _++_, append-assoc, append-nil}
@@ -27,7 +27,7 @@ use Rattle.fields.specs.FactsForProofs.{block-bounds, line-first, block-
 use Rattle.fields.specs.Facts.{longest-line, header-length}
 
 -- ── the count ──
--- "n is at least 1": with none the bytes would be a whole header
+-- at least 1: with none the bytes would be a whole header
 pub more-some : (n : ℕ) (s : List ℕ) → Judges (more n) s → 1 ≤ n
 more-some zero s x =
     let f = x .1 .0 in
@@ -35,7 +35,7 @@ more-some zero s x =
     absurd (x .0 (length s) (f .3) (omega arith, rw (take-length s) (subst (λ (t : List ℕ). Whole t (f .3)) (ap (λ (t : List ℕ). s ++ t) none ∙ append-nil s) (f .4))))
 more-some (suc n) s x = omega arith
 
--- "and at most 65,535"
+-- and at most 65,535
 pub more-most : (n : ℕ) (s : List ℕ) → Judges (more n) s → n ≤ 65535
 more-most n s x = by (x .1 .0 .4)
   where
@@ -70,7 +70,7 @@ pub most-asked : Judges (more 65535) (signature ++ LOCAL ∷ 0 ∷ 255 ∷ 255 �
 most-asked = judges (signature ++ LOCAL ∷ 0 ∷ 255 ∷ 255 ∷ [])
 
 -- ── further bytes ──
--- "after n further bytes of the right kind the header is accepted with length len + n"
+-- after n further bytes of the right kind the header is accepted, with the bytes so far and these as its length
 pub more-finishes : (n : ℕ) (s : List ℕ) → Judges (more n) s
     → (t : List ℕ) × AllBytes t × (length t ≡ n) × (h : Header) × Judges (accepted h (length s + n)) (s ++ t)
 more-finishes n s x =
@@ -110,7 +110,7 @@ block-rest n s x first long = by (x .1 .0 .4)
         let size = x .1 .0 .2 in
         omega arith
 
--- "one byte taken from the continuation leaves n - 1 or more"
+-- one further byte leaves n - 1 or more
 pub one-byte-less : (n m c : ℕ) (s : List ℕ) → Judges (more n) s → Judges (more m) (s ++ c ∷ []) → n ≤ 1 + m
 one-byte-less n m c s x y =
     let f = y .1 .0 in
@@ -171,7 +171,7 @@ module _ (u : List ℕ) (h : ℕ) (a : Header) (begins : Heads Whole h a u) wher
           let here : take (p + 1) (take k u) ++ drop (p + 1) u ≡ u = ap (λ (f : List ℕ). f ++ drop (p + 1) u) (take-take (p + 1) k u (omega (arith, size))) ∙ take-append-drop (p + 1) u in
           absurd (x .2 (bytes-enough (take (p + 1) (take k u)) (drop (p + 1) u) h a (subst (Heads Whole h a) (sym here) begins)))
 
-  -- "a caller who always reads exactly n never reads past the header": nor does one who is given fewer
+  -- Who always reads exactly n bytes never reads past the header; nor does one who is given fewer.
   pub never-past : (k : ℕ) (reads : List ℕ) → k ≤ h → Careful u k reads → readBytes k reads ≤ h
   never-past k [] inside c = inside
   never-past k (m ∷ reads) inside c =

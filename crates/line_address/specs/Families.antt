@@ -26,7 +26,7 @@ abbrev pub field : Bool → AddressParser
 field true = address6
 field false = address4
 
--- how many bytes the shortestAddress address has with the space that ends it: "0.0.0.0 " or ":: "
+-- how many bytes the shortest address has with the space that ends it: "0.0.0.0 " or ":: "
 abbrev pub shortestAddress : Bool → ℕ
 shortestAddress true = 3
 shortestAddress false = 8

@@ -32,7 +32,7 @@ fn tcp_kind(six: bool) -> Kind
     }
 }
 
-// How many bytes the shortestAddress address has, with the space that ends it.
+// How many bytes the shortest address has, with the space that ends it.
 fn shortest_address(six: bool) -> usize
     ensures { λ r. ⌜ r ≡ shortestAddress six ⌝ }
 {

@@ -11,9 +11,13 @@ use Rattle.exact.specs.Pick.{pick}
 pub data Line : Type 0 where
   line : Bool → ℕ → Line
 
--- the fewest bytes of a line that begins with c and not with its end: CR and LF behind c, or LF where c is CR
+-- how few bytes could end the line: LF behind CR, else CR and LF
+abbrev pub ending : Bool → ℕ
+ending is-cr = pick is-cr 1 2
+
+-- the fewest bytes of a line that begins with a byte and not with its end: that byte, and what could end the line behind it
 abbrev pub least : Bool → ℕ
-least is-cr = pick is-cr 2 3
+least is-cr = 1 + ending is-cr
 
 -- a byte that does not end the line
 abbrev pub pass : Bool → ℕ → ℕ → Move Line ℕ
@@ -23,9 +27,9 @@ abbrev pub stepLine : Line → ℕ → Move Line ℕ
 stepLine (line true left) c = pick (eqb c 10) (done 0) (pass (eqb c 13) left c)
 stepLine (line false left) c = pass (eqb c 13) left c
 
--- LF behind CR, else CR and LF, and then m
+-- and then m
 abbrev pub leastLine : ℕ → Line → ℕ
-leastLine m (line is-cr left) = pick is-cr 1 2 + m
+leastLine m (line is-cr left) = ending is-cr + m
 
 -- m is what is asked behind the line
 abbrev pub lineVerdict : (k m limit : ℕ) → List ℕ → Verdict ℕ

@@ -73,9 +73,9 @@ from-destination-requires c κs =
 returns : tie.Need-returns
 returns c =
     let ran = c .before .before .before .before .before in
-    let shortestAddress = c .before .shortest-address .ensures in
+    let here = c .before .shortest-address .ensures in
     as-more (address ran) (rest ran) (text ran) (at ran) _
-    (ap more (omega (arith, shortestAddress, shortest-least (six ran) 5)) ∙ found ran _ (c .before .before .before .least .given .1)) (c .more .ensures (text ran))
+    (ap more (omega (arith, here, shortest-least (six ran) 5)) ∙ found ran _ (c .before .before .before .least .given .1)) (c .more .ensures (text ran))
 
 returns-2 : tie.Need-returns-2
 returns-2 c = let ran = c .before .before .before .before in as-refused (address ran) (rest ran) (text ran) (at ran) 3 _ (found ran _ (c .before .before .place .given .1)) (c .refused .ensures (text ran))
