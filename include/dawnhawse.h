@@ -160,8 +160,8 @@ extern "C" {
  * DAWNHAWSE_MORE tells n, the smallest number of further bytes with which some continuation is a whole header: at least 1 and at
  * most 65535. A caller who reads exactly n bytes each time, or fewer, never reads past the header. n may grow from one call to the
  * next, as bytes rule out short headers ("PROXY " gives 9, "PROXY T" gives 15), so it is not to be counted down. No header is whole
- * before n further bytes have come, so scraps may gather until then: each call begins at the first byte. Once 16 bytes of version 2 have
- * come, n is all that is missing.
+ * before n further bytes have come, so scraps may gather until then: each call begins at the first byte. Once 16 bytes of version 2
+ * have come, n is all that is missing; behind "PROXY UNKNOWN " it is 1 or 2: CR LF may come at once.
  *
  * From a socket: call it with no bytes, and while it answers DAWNHAWSE_MORE, read numbers[DAWNHAWSE_LEAST] bytes behind those
  * received and call it again; DAWNHAWSE_LONGEST_HEADER bytes are room enough, and when it accepts, all the payload is still in the
