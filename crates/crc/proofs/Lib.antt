@@ -1,0 +1,5 @@
+pub mod Xor
+pub mod Linear
+pub mod Tested
+pub mod Turn
+pub mod Around

@@ -1,0 +1,4 @@
+pub mod Crc
+pub mod Vectors
+pub mod PartLaws
+pub mod Table
