@@ -3,3 +3,4 @@ pub mod PlacedLaws
 pub mod PartLaws
 pub mod Buffers
 pub mod BufferLaws
+pub mod Same

@@ -1,9 +1,10 @@
-// Lent bytes: parts of them, cut at their end, and bytes put into them. No public function has a `requires`.
+// Lent bytes: parts of them, cut at their end, whether two are the same, and bytes put into them. No public function has a `requires`.
 ghost use mathlib.Core.Path.{_≡_};
 ghost use Prim.Native.Nat.{_+_, _≤_, min};
 ghost use lib.ListN.{length, take, drop};
 ghost use lib.Seq.{paste};
 ghost use Rattle.lent.specs.Placed.{placed};
+ghost use Rattle.lent.specs.Same.{same};
 
 pub fn least(a: usize, b: usize) -> usize
     ensures { λ r. ⌜ r ≡ min a b ⌝ }
@@ -29,6 +30,23 @@ pub fn behind(bytes: &[u8], at: usize) -> &[u8]
 {
     let start = least(at, bytes.len());
     &bytes[start..]
+}
+
+// Whether the bytes are the same.
+pub fn same_bytes(a: &[u8], b: &[u8]) -> bool
+    ensures { λ r. ⌜ r ≡ same (now (a .entry)) (now (b .entry)) ⌝ }
+{
+    if a.len() != b.len() {
+        return false;
+    }
+    let mut i: usize = 0;
+    while i < a.len() {
+        if a[i] != b[i] {
+            return false;
+        }
+        i += 1;
+    }
+    true
 }
 
 // Copies the bytes to this place of the output.

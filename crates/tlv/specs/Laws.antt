@@ -1,5 +1,6 @@
--- Laws of TLV areas: an area has one TLV list, one TLV is an area, joined lists are written one behind the other, and an area is of bytes.
-use mathlib.Core.Path.{_≡_, refl, sym, ap, _∙_, subst}
+-- Laws of TLV areas: an area has one TLV list, one TLV is an area, joined lists are written one behind the other and fill joined areas, and an area is
+-- of bytes.
+use mathlib.Core.Path.{_≡_, refl, sym, ap, ap₂, _∙_, subst}
 use mathlib.Core.List.{List, [], _∷_, _++_, append-nil, append-assoc}
 use Prim.Native.Nat.{ℕ, _<_}
 use native.Mathlib.Omega.{arith}
@@ -44,6 +45,14 @@ one-area t type bytes size = (sym (append-nil (tlvBytes (t .type) (t .value))), 
 pub written-append : (a b : List Tlv) → written (a ++ b) ≡ written a ++ written b
 written-append [] b = refl
 written-append (t ∷ a) b = rw (written-append a b) (simp append-assoc)
+
+proper-append : (a b : List Tlv) → Proper a → Proper b → Proper (a ++ b)
+proper-append [] b p q = q
+proper-append (t ∷ a) b p q = (p .0, p .1, p .2, proper-append a b (p .3) q)
+
+-- an area behind another
+pub area-append : (f g : List ℕ) (a b : List Tlv) → Area f a → Area g b → Area (f ++ g) (a ++ b)
+area-append f g a b x y = (ap₂ _++_ (x .0) (y .0) ∙ sym (written-append a b), proper-append a b (x .1) (y .1))
 
 written-bytes : (a : List Tlv) → Proper a → AllBytes (written a)
 written-bytes [] p = tt

@@ -1,5 +1,6 @@
 pub mod Tlv
 pub mod Laws
+pub mod Listed
 pub mod Room
 pub mod Rules
 pub mod RegionVerdict

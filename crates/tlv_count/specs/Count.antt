@@ -1,10 +1,13 @@
 -- How many TLVs of a type an area has.
 use mathlib.Core.Path.{_≡_}
+use mathlib.Core.Bool.{Bool, _&&_}
 use mathlib.Core.List.{List, [], _∷_}
 use Prim.Native.Nat.{ℕ, _+_}
 use lib.Dec.{eqb}
 use Rattle.exact.specs.Pick.{pick}
 use Rattle.tlv.specs.Tlv.{Tlv, Area, WellFormed}
+use Rattle.tlv.specs.Test.{wellFormed}
+use Rattle.tlv.specs.Listed.{tlvsOf}
 use Rattle.tlv_count.specs.declared.Count.{Count}
 use Rattle.tlv_count.specs.declared.Count.the-variants.{Tlvs, IllFormed}
 
@@ -27,3 +30,7 @@ toldCount IllFormed = refused 12
 pub record Counts (area : List ℕ) (type : ℕ) (r : Count) : Type 0 where
   pub listed : (tlvs : List Tlv) → Area area tlvs → toldCount r ≡ counted (countOf type tlvs)
   pub refuses : (WellFormed area → ⊥) → toldCount r ≡ refused 12
+
+-- whether TLVs fill the area, and none of them is of the type
+abbrev pub noneTest : (type : ℕ) → List ℕ → Bool
+noneTest type area = wellFormed area && eqb (countOf type (tlvsOf area)) 0

@@ -1,7 +1,8 @@
 // How many TLVs of a type an area has. No public function has a `requires`.
 use exact::number;
 use tlv::well_formed;
-ghost use Rattle.tlv_count.specs.Count.{Counts};
+ghost use mathlib.Core.Path.{_≡_};
+ghost use Rattle.tlv_count.specs.Count.{Counts, noneTest};
 
 // A count of TLVs.
 pub enum Count {
@@ -27,5 +28,15 @@ pub fn count_of(area: &[u8], wanted: u8) -> Count
         Count::Tlvs(count)
     } else {
         Count::IllFormed
+    }
+}
+
+// Whether TLVs fill the area, and none of them is of the type.
+pub fn has_none(area: &[u8], wanted: u8) -> bool
+    ensures { λ r. ⌜ r ≡ noneTest wanted (now (area .entry)) ⌝ }
+{
+    match count_of(area, wanted) {
+        Count::Tlvs(n) => n == 0,
+        Count::IllFormed => false,
     }
 }
