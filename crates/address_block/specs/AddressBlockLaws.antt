@@ -14,9 +14,9 @@ use Rattle.record.specs.declared.Kind.{Kind}
 use Rattle.record.specs.declared.Kind.the-variants.{Local, Unspecified, Ip4, Ip6, Unix}
 use Rattle.record.specs.declared.Record.{Record}
 use Rattle.record.specs.Kinds.{addressLength, portLength, blockLength}
-use Rattle.record.specs.RecordLaws.{same-record}
+use Rattle.record.specs.RecordLaws.{same-record, absent-fits}
 use Rattle.record.specs.HeldLaws.{held-length}
-use Rattle.record.specs.Records.{held, recordOf, PortFits, Clean, Sized}
+use Rattle.record.specs.Records.{held, recordOf, PortFits, Plain, Sized}
 use Rattle.address_block.specs.AddressBlock.{addressBlock, portAt, blockRecord}
 
 -- ── lengths ──
@@ -80,13 +80,13 @@ held-again k a size clean =
     ∙ ap (λ (t : List ℕ). take (addressLength k) a ++ t) (sym clean)
     ∙ take-append-drop (addressLength k) a
 
--- a clean record is made of the addresses and ports that its kind uses
-pub made-again : (r : Record) → Sized r → Clean r
+-- a plain record is made of the addresses and ports that its kind uses
+pub made-again : (r : Record) → Sized r → Plain r
     → recordOf (r .kind) (take (addressLength (r .kind)) (r .source)) (take (addressLength (r .kind)) (r .destination)) (r .«source_port»)
     (r .«destination_port») ≡ r
-made-again r sized clean =
-    same-record (r .kind) (held-again (r .kind) (r .source) (sized .source) (clean .source))
-    (held-again (r .kind) (r .destination) (sized .destination) (clean .destination)) refl refl
+made-again r sized plain =
+    same-record (r .kind) (held-again (r .kind) (r .source) (sized .source) (plain .clean .source))
+    (held-again (r .kind) (r .destination) (sized .destination) (plain .clean .destination)) refl refl (sym (plain .absent))
 
 -- ── ports ──
 number-again : (f g : List ℕ) (n i : ℕ) → length f ≡ i → numberAt (f ++ network n ++ g) i ≡ n
@@ -133,9 +133,9 @@ port-kept (Ip6 t) s i b = let h = number-small s i b in (h, h)
 port-kept (Unix t) s i b = (refl, omega arith)
 
 -- ── a record and its address block ──
--- the address block of a clean record gives the record back
-pub record-again : (r : Record) → Sized r → Clean r → blockRecord (r .kind) (addressBlock r) ≡ r
-record-again r sized clean =
+-- the address block of a plain record gives the record back
+pub record-again : (r : Record) → Sized r → Plain r → blockRecord (r .kind) (addressBlock r) ≡ r
+record-again r sized plain =
     let k = r .kind in
     let n = addressLength k in
     let m = portLength k in
@@ -152,14 +152,14 @@ record-again r sized clean =
     let from : take n (addressBlock r) ≡ a = ap (take n) split ∙ take-at a (b ++ (p ++ q)) n a-size in
     let rest : drop n (addressBlock r) ≡ b ++ (p ++ q) = ap (drop n) split ∙ drop-at a (b ++ (p ++ q)) n a-size in
     let to : take n (drop n (addressBlock r)) ≡ b = ap (take n) rest ∙ take-at b (p ++ q) n b-size in
-    let source : portAt k (addressBlock r) (n + n) ≡ r .«source_port» = port-again k (a ++ b) q (r .«source_port») (n + n) ab-size (clean .«source_port») in
+    let source : portAt k (addressBlock r) (n + n) ≡ r .«source_port» = port-again k (a ++ b) q (r .«source_port») (n + n) ab-size (plain .clean .«source_port») in
     let destination : portAt k (addressBlock r) (n + n + m) ≡ r .«destination_port» =
     ap (λ (s : List ℕ). portAt k s (n + n + m)) (sym (append-nil (addressBlock r)))
-    ∙ port-again k (a ++ b ++ p) [] (r .«destination_port») (n + n + m) abp-size (clean .«destination_port»)
+    ∙ port-again k (a ++ b ++ p) [] (r .«destination_port») (n + n + m) abp-size (plain .clean .«destination_port»)
     in
     ap₂ (λ (x y : List ℕ). recordOf k x y (portAt k (addressBlock r) (n + n)) (portAt k (addressBlock r) (n + n + m))) from to
     ∙ ap₂ (λ (x y : ℕ). recordOf k a b x y) source destination
-    ∙ made-again r sized clean
+    ∙ made-again r sized plain
 
 module _ (k : Kind) (b : List ℕ) (size : length b ≡ blockLength k) (bytes : AllBytes b) where
   abbrev n : ℕ
@@ -190,14 +190,18 @@ module _ (k : Kind) (b : List ℕ) (size : length b ≡ blockLength k) (bytes : 
       (part-again k b (n + n + m) bytes (omega arith))
       ∙ sym parts
 
-  -- and is clean
-  pub block-clean : Clean (blockRecord k b)
-  block-clean =
+  -- and is plain
+  pub block-plain : Plain (blockRecord k b)
+  block-plain =
       record {
-        source = held-zeros k (take n b) from-size;
-        destination = held-zeros k (take n (drop n b)) to-size;
-        «source_port» = port-kept k b (n + n) bytes .0;
-        «destination_port» = port-kept k b (n + n + m) bytes .0;
+        clean = record {
+          source = held-zeros k (take n b) from-size;
+          destination = held-zeros k (take n (drop n b)) to-size;
+          «source_port» = port-kept k b (n + n) bytes .0;
+          «destination_port» = port-kept k b (n + n + m) bytes .0;
+          checksum = absent-fits k;
+        };
+        absent = refl;
       }
 
   pub block-sized : Sized (blockRecord k b)

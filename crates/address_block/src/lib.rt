@@ -2,6 +2,7 @@
 use exact::number;
 use lent::behind;
 use lent::least;
+use record::Checksum;
 use record::Kind;
 use record::Record;
 use record::address_length;
@@ -47,6 +48,7 @@ pub fn record_from(
         held(destination, n),
         source_port,
         destination_port,
+        Checksum::Absent,
     )
 }
 

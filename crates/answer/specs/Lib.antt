@@ -1,5 +1,6 @@
 pub mod Answers
 pub mod Sight
+pub mod SightLaws
 pub mod OneSight
 pub mod StageLaws
 pub mod OutputLaws

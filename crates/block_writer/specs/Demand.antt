@@ -1,23 +1,21 @@
 -- Demand 2 of document 01 for version 2: what the writer writes reads back as the record and the TLV area, and it refuses exactly what version 2
 -- cannot carry and the outputs that are too short.
 use mathlib.Core.Path.{_≡_, refl, sym, _∙_, subst}
-use mathlib.Core.Bool.{Bool, true, false}
+use mathlib.Core.Bool.{true, false}
 use mathlib.Core.List.{List, _++_}
 use mathlib.Core.Logic.{inr}
 use Prim.Native.Nat.{ℕ, _≤_, _<_}
 use native.Mathlib.Omega.{arith}
-use lib.Dec.{leb, ltb}
 use lib.ListN.{length, take, length-append}
 use lib.Seq.{take-append-seam}
-use borrow.Author.Tests.{le-leb, leb-true, leb-false, lt-ltb, ltb-true, ltb-false}
+use borrow.Author.Tests.{le-leb, lt-ltb}
 use Rattle.exact.specs.Claim.{Verdict, accepted}
-use Rattle.exact.specs.Pick.{pick-by}
 use Rattle.tlv.specs.Tlv.{Tlv, Area as AreaOf}
 use Rattle.tlv.specs.Laws.{area-one}
 use Rattle.record.specs.declared.Record.{Record}
-use Rattle.record.specs.Records.{Clean, Sized}
-use Rattle.clean.specs.Unused.{cleanTest}
-use Rattle.clean.specs.UnusedLaws.{clean-test}
+use Rattle.record.specs.Records.{Plain, Sized}
+use Rattle.clean.specs.Unused.{plainTest}
+use Rattle.clean.specs.UnusedLaws.{plain-test}
 use Rattle.header.specs.Header.{Header, Whole}
 use Rattle.header.specs.Demand.{Judges}
 use Rattle.fields.specs.BlockFields.{blocked}
@@ -28,12 +26,13 @@ use Rattle.answer.specs.OutputLaws.{written-front}
 use Rattle.block_writer.specs.Areas.{AreaFits, areaTest}
 use Rattle.block_writer.specs.AreaLaws.{area-test}
 use Rattle.block_writer.specs.Written.{blockOf, writtenBlock, CarriedByBlock, blockAnswer}
+use Rattle.block_writer.specs.OrderLaws.{in-order}
 use Rattle.block_writer.specs.WholeBlock.{block-of}
 
 module _ (r : Record) (area : List ℕ) (w : CarriedByBlock r area) where
   -- the block is a whole header that says the record, version 2 and the area
   pub block-whole : Whole (writtenBlock r area) (blocked r area)
-  block-whole = inr (block-of (r .kind) (r .source) (r .destination) (r .«source_port») (r .«destination_port») area w, refl)
+  block-whole = inr (block-of (r .kind) (r .source) (r .destination) (r .«source_port») (r .«destination_port») (r .checksum) area w, refl)
 
   -- with any bytes behind it, it is accepted with that record, version 2, that area and its length
   pub block-read : (t : List ℕ) → Judges (accepted (blocked r area) (length (writtenBlock r area))) (writtenBlock r area ++ t)
@@ -53,38 +52,34 @@ module _ (r : Record) (area : List ℕ) (w : CarriedByBlock r area) where
 
 -- what each answer means: "Writers check 10, 11, 12, 13, 14 in this order"; 10 is never given
 pub data Means (r : Record) (area : List ℕ) (room : ℕ) : WriteAnswer → Type 0 where
-  unused : (Clean r → ⊥) → Means r area room (refuses 11)
-  ill-formed : Clean r → (AreaFits (r .kind) area → ⊥) → Means r area room (refuses 12)
-  too-large : Clean r → AreaFits (r .kind) area → 65536 ≤ length (blockOf r area) → Means r area room (refuses 13)
+  unused : (Plain r → ⊥) → Means r area room (refuses 11)
+  ill-formed : Plain r → (AreaFits (r .kind) area → ⊥) → Means r area room (refuses 12)
+  too-large : Plain r → AreaFits (r .kind) area → 65536 ≤ length (blockOf r area) → Means r area room (refuses 13)
   too-short : CarriedByBlock r area → room < length (writtenBlock r area) → Means r area room (refuses 14)
   written : CarriedByBlock r area → length (writtenBlock r area) ≤ room → Means r area room (wrote (length (writtenBlock r area)))
 
 pub answer-means : (r : Record) (area : List ℕ) (room : ℕ) → Sized r → Means r area room (blockAnswer r area room)
 answer-means r area room sized =
-    let P : WriteAnswer → Type 0 = Means r area room in
-    let never : (b : Bool) → b ≡ false → b ≡ true → ⊥ = λ b e f. let z : _≡_ {A = ℕ} 0 1 = cc in omega arith in
-    pick-by P (cleanTest r)
-    (λ test.
-    let clean = clean-test r sized .0 test in
-    pick-by P (areaTest (r .kind) area)
-    (λ test.
-    let fits = area-test (r .kind) area .0 test in
-    pick-by P (ltb (length (blockOf r area)) 65536)
-    (λ small.
-    let carried : CarriedByBlock r area =
-    record { sized = sized; clean = clean; tlvs = fits .0; beside = fits .1; small = ltb-true _ _ small }
-    in
-    pick-by P (leb (length (writtenBlock r area)) room) (λ t. written carried (leb-true _ _ t)) (λ t. too-short carried (leb-false _ _ t)))
-    (λ large. too-large clean fits (ltb-false _ _ large)))
-    (λ test. ill-formed clean (λ fits. never _ test (area-test (r .kind) area .1 fits))))
-    (λ test. unused (λ clean. never _ test (clean-test r sized .1 clean)))
+    in-order (Means r area room) (plainTest r) (areaTest (r .kind) area) (length (blockOf r area)) (length (writtenBlock r area)) room
+    (λ test. unused (λ plain. never (sym test ∙ plain-test r sized .1 plain)))
+    (λ test other. ill-formed (plain-test r sized .0 test) (λ fits. never (sym other ∙ area-test (r .kind) area .1 fits)))
+    (λ test fits large. too-large (plain-test r sized .0 test) (area-test (r .kind) area .0 fits) large)
+    (λ test fits small short. too-short (carried test fits small) short) (λ test fits small room. written (carried test fits small) room)
+  where
+    carried : plainTest r ≡ true → areaTest (r .kind) area ≡ true → length (blockOf r area) < 65536 → CarriedByBlock r area
+    carried test fits small =
+        let f = area-test (r .kind) area .0 fits in
+        record { sized = sized; plain = plain-test r sized .0 test; tlvs = f .0; beside = f .1; small = small }
+
+    never : false ≡ true → ⊥
+    never e = let z : _≡_ {A = ℕ} 0 1 = cc in omega arith
 
 -- it writes what version 2 can carry, where there is room
 pub block-written : (r : Record) (area : List ℕ) (room : ℕ) → CarriedByBlock r area → length (writtenBlock r area) ≤ room
     → blockAnswer r area room ≡ wrote (length (writtenBlock r area))
 block-written r area room w fits =
     rw (
-      clean-test r (w .sized) .1 (w .clean),
+      plain-test r (w .sized) .1 (w .plain),
       area-test (r .kind) area .1 (w .tlvs, w .beside),
       lt-ltb (length (blockOf r area)) 65536 (w .small),
       le-leb (length (writtenBlock r area)) room fits,

@@ -11,6 +11,7 @@ use Rattle.tlv.specs.Laws.{area-bytes}
 use Rattle.record.specs.declared.Transport.the-variants.{Stream, Datagram}
 use Rattle.record.specs.declared.Kind.{Kind}
 use Rattle.record.specs.declared.Kind.the-variants.{Local, Unspecified, Ip4, Ip6, Unix}
+use Rattle.record.specs.declared.Checksum.{Checksum}
 use Rattle.record.specs.declared.Record.{Record}
 use Rattle.record.specs.Kinds.{family, byteOf, addressLength, portLength}
 use Rattle.record.specs.Records.{recordWith, recordOf, bare}
@@ -73,9 +74,9 @@ module _ (r : Record) (area : List ℕ) (w : CarriedByBlock r area) where
         to-length = address-size k (r .destination) (w .sized .destination);
         from-bytes = bytes-take (addressLength k) (r .source) (w .sized .source-bytes);
         to-bytes = bytes-take (addressLength k) (r .destination) (w .sized .destination-bytes);
-        p-fits = w .clean .«source_port»;
-        q-fits = w .clean .«destination_port»;
-        says = sym (made-again r (w .sized) (w .clean));
+        p-fits = w .plain .clean .«source_port»;
+        q-fits = w .plain .clean .«destination_port»;
+        says = sym (made-again r (w .sized) (w .plain));
       }
 
   address-block : HasAddresses k → AddressBlock (writtenBlock r area) r area
@@ -100,16 +101,16 @@ module _ (r : Record) (area : List ℕ) (w : CarriedByBlock r area) where
 bare-made : (k : Kind) (p q : ℕ) (r : Record) → recordOf k [] [] p q ≡ r → p ≡ 0 → q ≡ 0 → r ≡ bare k
 bare-made k p q r e x y = sym e ∙ ap₂ (λ (m n : ℕ). recordOf k [] [] m n) x y
 
-pub block-of : (k : Kind) (s d : List ℕ) (p q : ℕ) (area : List ℕ) → CarriedByBlock (recordWith k s d p q) area
-    → Block (writtenBlock (recordWith k s d p q) area) (recordWith k s d p q) area
+pub block-of : (k : Kind) (s d : List ℕ) (p q : ℕ) (c : Checksum) (area : List ℕ) → CarriedByBlock (recordWith k s d p q c) area
+    → Block (writtenBlock (recordWith k s d p q c) area) (recordWith k s d p q c) area
 unfolding writtenBlock
-block-of Local s d p q area w =
+block-of Local s d p q c area w =
     inl (
       record { byte13 = 0; block = area; framed = record { split = refl; small = w .small }; byte = omega arith; bytes = area-bytes area (w .tlvs) },
-      bare-made Local p q _ (made-again (recordWith Local s d p q) (w .sized) (w .clean)) (w .clean .«source_port») (w .clean .«destination_port»),
+      bare-made Local p q _ (made-again (recordWith Local s d p q c) (w .sized) (w .plain)) (w .plain .clean .«source_port») (w .plain .clean .«destination_port»),
       w .beside (λ x. x),
     )
-block-of Unspecified s d p q area w =
+block-of Unspecified s d p q c area w =
     inr
     (inl (
       record {
@@ -120,9 +121,9 @@ block-of Unspecified s d p q area w =
         table = refl;
         bytes = area-bytes area (w .tlvs);
       },
-      bare-made Unspecified p q _ (made-again (recordWith Unspecified s d p q) (w .sized) (w .clean)) (w .clean .«source_port») (w .clean .«destination_port»),
+      bare-made Unspecified p q _ (made-again (recordWith Unspecified s d p q c) (w .sized) (w .plain)) (w .plain .clean .«source_port») (w .plain .clean .«destination_port»),
       w .beside (λ x. x),
     ))
-block-of (Ip4 t) s d p q area w = inr (inr (address-block (recordWith (Ip4 t) s d p q) area w tt))
-block-of (Ip6 t) s d p q area w = inr (inr (address-block (recordWith (Ip6 t) s d p q) area w tt))
-block-of (Unix t) s d p q area w = inr (inr (address-block (recordWith (Unix t) s d p q) area w tt))
+block-of (Ip4 t) s d p q c area w = inr (inr (address-block (recordWith (Ip4 t) s d p q c) area w tt))
+block-of (Ip6 t) s d p q c area w = inr (inr (address-block (recordWith (Ip6 t) s d p q c) area w tt))
+block-of (Unix t) s d p q c area w = inr (inr (address-block (recordWith (Unix t) s d p q c) area w tt))

@@ -9,7 +9,7 @@ use Rattle.exact.specs.Pick.{pick}
 use Rattle.record.specs.declared.Kind.{Kind}
 use Rattle.record.specs.declared.Record.{Record}
 use Rattle.record.specs.Kinds.{addressLength}
-use Rattle.record.specs.Records.{held, recordOf}
+use Rattle.record.specs.Records.{held, recordOf, withChecksum}
 use Rattle.record.specs.RecordLaws.{same-record}
 use Rattle.address_block.specs.AddressBlockLaws.{address-fits}
 use Rattle.address_block.specs.AddressBlock.{blockRecord}
@@ -21,25 +21,27 @@ use Rattle.answer.specs.Sight.{callerRecord, inBytes, recordBy}
 use Rattle.lent.specs.Buffers.{over}
 use Rattle.connection.specs.Connection.{connectionSize}
 
--- ── the five parts of a connection, put one behind the other ──
-pub five-parts : (a b c p q d d₁ d₂ d₃ d₄ d₅ : List ℕ) → length a ≡ 1 → length b ≡ 108 → length c ≡ 108 → length p ≡ 2 → length q ≡ 2
-    → connectionSize ≤ length d → d₁ ≡ placed a 0 d → d₂ ≡ placed b 1 d₁ → d₃ ≡ placed c 109 d₂ → d₄ ≡ placed p 217 d₃ → d₅ ≡ placed q 219 d₄
-    → d₅ ≡ over (a ++ b ++ c ++ p ++ q) d
-five-parts a b c p q d d₁ d₂ d₃ d₄ d₅ la lb lc lp lq room e₁ e₂ e₃ e₄ e₅ =
+-- ── the six parts of a connection, put one behind the other ──
+pub six-parts : (a b c p q z d d₁ d₂ d₃ d₄ d₅ d₆ : List ℕ) → length a ≡ 1 → length b ≡ 108 → length c ≡ 108 → length p ≡ 2 → length q ≡ 2
+    → length z ≡ 1 → connectionSize ≤ length d → d₁ ≡ placed a 0 d → d₂ ≡ placed b 1 d₁ → d₃ ≡ placed c 109 d₂ → d₄ ≡ placed p 217 d₃
+    → d₅ ≡ placed q 219 d₄ → d₆ ≡ placed z 221 d₅ → d₆ ≡ over (a ++ b ++ c ++ p ++ q ++ z) d
+six-parts a b c p q z d d₁ d₂ d₃ d₄ d₅ d₆ la lb lc lp lq lz room e₁ e₂ e₃ e₄ e₅ e₆ =
     let ab = length-append a b in
     let abc = length-append (a ++ b) c in
     let abcp = length-append (a ++ b ++ c) p in
     let abcpq = length-append (a ++ b ++ c ++ p) q in
+    let abcpqz = length-append (a ++ b ++ c ++ p ++ q) z in
     let two = placed-then a b d d₁ d₂ 0 1 e₁ e₂ (omega arith) (omega arith) in
     let three = placed-then (a ++ b) c d d₂ d₃ 0 109 two e₃ (omega arith) (omega arith) in
     let four = placed-then (a ++ b ++ c) p d d₃ d₄ 0 217 three e₄ (omega arith) (omega arith) in
-    placed-then (a ++ b ++ c ++ p) q d d₄ d₅ 0 219 four e₅ (omega arith) (omega arith)
-    ∙ placed-front (a ++ b ++ c ++ p ++ q) d (omega arith)
+    let five = placed-then (a ++ b ++ c ++ p) q d d₄ d₅ 0 219 four e₅ (omega arith) (omega arith) in
+    placed-then (a ++ b ++ c ++ p ++ q) z d d₅ d₆ 0 221 five e₆ (omega arith) (omega arith)
+    ∙ placed-front (a ++ b ++ c ++ p ++ q ++ z) d (omega arith)
 
 -- a record in memory, by its parts
 pub record-again : (r : Record) → length (r .source) ≡ 108 → length (r .destination) ≡ 108
-    → recordOf (r .kind) (r .source) (r .destination) (r .«source_port») (r .«destination_port») ≡ r
-record-again r s d = same-record (r .kind) (whole (r .source) s) (whole (r .destination) d) refl refl
+    → withChecksum (r .checksum) (recordOf (r .kind) (r .source) (r .destination) (r .«source_port») (r .«destination_port»)) ≡ r
+record-again r s d = same-record (r .kind) (whole (r .source) s) (whole (r .destination) d) refl refl refl
   where
     whole : (a : List ℕ) → length a ≡ 108 → held a ≡ a
     whole a e = let none : 108 - length a ≡ 0 = omega arith in ap (λ (n : ℕ). a ++ replicate n 0) none ∙ append-nil a

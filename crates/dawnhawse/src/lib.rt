@@ -1,11 +1,14 @@
 // The C library: the readers and writers for C callers, over numbers and bytes (include/dawnhawse.h). A static library exports the functions of
-// its own crate only, so each stands here and passes on to `read_interface`, `write_interface` or `tlv_interface`. No public function has a `requires`.
+// its own crate only, so each stands here and passes on to `read_interface`, `write_interface`, `tlv_interface` or `crc`. No public function has a `requires`.
+mod crc32c;
 mod read;
 mod stored;
 mod tlvs;
 mod write;
 
+pub use crc32c::dawnhawse_crc32c;
 pub use read::dawnhawse_read;
+pub use read::dawnhawse_read_checked;
 pub use stored::dawnhawse_load;
 pub use stored::dawnhawse_store;
 pub use tlvs::dawnhawse_lookup;
@@ -13,3 +16,4 @@ pub use tlvs::dawnhawse_next;
 pub use tlvs::dawnhawse_step;
 pub use write::dawnhawse_write_v1;
 pub use write::dawnhawse_write_v2;
+pub use write::dawnhawse_write_v2_checked;

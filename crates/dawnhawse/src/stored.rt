@@ -12,7 +12,7 @@ pub extern "C" fn dawnhawse_store(connection: &[u8], out: &mut [u8], numbers: &m
     write_interface::store(connection, out, numbers)
 }
 
-// Loads a connection. With room for its 221 bytes it is told; else nothing is written.
+// Loads a connection. With room for its 222 bytes it is told; else nothing is written.
 #[no_mangle]
 pub extern "C" fn dawnhawse_load(stored: &[u8], connection: &mut [u8]) -> u32
     ensures { λ r. ⌜ LoadTold (loadAnswer (now (stored .entry))) (now (connection .entry)) r (now (connection .exit)) ⌝ }

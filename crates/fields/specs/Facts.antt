@@ -22,13 +22,14 @@ use Rattle.decimal.specs.DecimalLaws.{decimal-length}
 use Rattle.ip4.specs.Ip4Laws.{address-length}
 use Rattle.hex.specs.Hex.{hexOf}
 use Rattle.ip6.specs.Bounds.{address-bounds}
+use Rattle.tlv.specs.Tlv.{WellFormed}
 use Rattle.tlv.specs.Room.{filled-fillable}
 use Rattle.record.specs.declared.Transport.the-variants.{Stream}
 use Rattle.record.specs.declared.Kind.{Kind}
 use Rattle.record.specs.declared.Kind.the-variants.{Local, Unspecified, Ip4, Ip6}
 use Rattle.record.specs.declared.Record.{Record}
 use Rattle.record.specs.Kinds.{family, blockLength}
-use Rattle.record.specs.Records.{recordOf, bare, Clean}
+use Rattle.record.specs.Records.{recordOf, bare, Plain}
 use Rattle.header.specs.Line.{TcpLine, Ip6Address, UnknownLine, Line}
 use Rattle.header.specs.Block.{signature, LOCAL, PROXY, Framed, HasAddresses, AddressBlock, Block}
 use Rattle.header.specs.Header.{Header, Whole}
@@ -266,18 +267,26 @@ area-empty f h (inr (inr (inl w), x)) empty = w .2
 area-empty f h (inr (inr (inr w), x)) empty =
     absurd (⊎-elim (λ v. omega arith) (λ no. no (kind-of _ (h .«record») (sym (w .addresses .says)) (w .has))) empty)
 
--- "Addresses of 4, 16 or 108 bytes are held by value. Address bytes and ports that a kind does not use are zero; UNIX has no ports"
-pub record-clean : (f : List ℕ) (h : Header) → Whole f h
-    → Clean (h .«record») × (length (h .«record» .source) ≡ 108) × (length (h .«record» .destination) ≡ 108)
-record-clean f h (inl (inl l, v, a)) = rw (l .1) (kept Unspecified [] [] 0 0 refl refl refl refl)
-record-clean f h (inl (inr (inl l), v, a)) =
+-- "The rest of the block is TLVs; they fill it exactly": TLVs fill the area of every header
+pub area-filled : (f : List ℕ) (h : Header) → Whole f h → WellFormed (h .area)
+area-filled f h (inl w) = subst WellFormed (sym (w .2)) ([], (refl, tt))
+area-filled f h (inr (inl w, v)) = subst WellFormed (sym (w .2)) ([], (refl, tt))
+area-filled f h (inr (inr (inl w), v)) = subst WellFormed (sym (w .2)) ([], (refl, tt))
+area-filled f h (inr (inr (inr w), v)) = w .tlvs
+
+-- "Addresses of 4, 16 or 108 bytes are held by value. Address bytes and ports that a kind does not use are zero; UNIX has no ports"; and the state
+-- of "the plain reader" is "always absent" (document 02, K6)
+pub record-plain : (f : List ℕ) (h : Header) → Whole f h
+    → Plain (h .«record») × (length (h .«record» .source) ≡ 108) × (length (h .«record» .destination) ≡ 108)
+record-plain f h (inl (inl l, v, a)) = rw (l .1) (kept Unspecified [] [] 0 0 refl refl refl refl)
+record-plain f h (inl (inr (inl l), v, a)) =
     tcp-kept (ascii "TCP4") (Ip4 Stream) Ip4Address (λ t a l. rw (l .value)) (λ p e. e) f (h .«record») l
-record-clean f h (inl (inr (inr l), v, a)) =
+record-plain f h (inl (inr (inr l), v, a)) =
     tcp-kept (ascii "TCP6") (Ip6 Stream) Ip6Address
     (λ t a l. let e = address-bounds t (l .groups) (l .text) .eight in rw (l .value, group-bytes (l .groups)) (omega arith))
     (λ p e. e) f (h .«record») l
-record-clean f h (inr (inl w, v)) = rw (w .1) (kept Local [] [] 0 0 refl refl refl refl)
-record-clean f h (inr (inr (inl w), v)) = rw (w .1) (kept Unspecified [] [] 0 0 refl refl refl refl)
-record-clean f h (inr (inr (inr w), v)) =
+record-plain f h (inr (inl w, v)) = rw (w .1) (kept Local [] [] 0 0 refl refl refl refl)
+record-plain f h (inr (inr (inl w), v)) = rw (w .1) (kept Unspecified [] [] 0 0 refl refl refl refl)
+record-plain f h (inr (inr (inr w), v)) =
     let a = w .addresses in
     rw (a .says) (kept (w .kind) (a .from) (a .to) (a .p) (a .q) (a .from-length) (a .to-length) (a .p-fits) (a .q-fits))

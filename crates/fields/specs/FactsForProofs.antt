@@ -27,7 +27,8 @@ use Rattle.record.specs.declared.Kind.{Kind}
 use Rattle.record.specs.declared.Kind.the-variants.{Local, Unspecified, Ip4, Ip6, Unix}
 use Rattle.record.specs.declared.Record.{Record}
 use Rattle.record.specs.Kinds.{family, addressLength, blockLength}
-use Rattle.record.specs.Records.{held, recordOf, bare, PortFits, Clean}
+use Rattle.record.specs.Records.{held, recordOf, bare, PortFits, Plain}
+use Rattle.record.specs.RecordLaws.{absent-fits}
 use Rattle.header.specs.Line.{groupBytes, TcpLine, Line}
 use Rattle.header.specs.Block.{signature, LOCAL, PROXY, Framed, HasAddresses, portBytes, Addresses, Block}
 use Rattle.header.specs.Header.{Header, Whole, placeNumber, blockNumber, lineNumber, partsEnded}
@@ -71,7 +72,7 @@ header-least f h (inr w) = let b = block-bounds f (h .«record») (h .area) (w .
 
 -- ── the record ──
 abbrev Kept : Record → Type 0
-Kept r = Clean r × (length (r .source) ≡ 108) × (length (r .destination) ≡ 108)
+Kept r = Plain r × (length (r .source) ≡ 108) × (length (r .destination) ≡ 108)
 
 address-fits : (k : Kind) → addressLength k ≤ 108
 address-fits Local = omega arith
@@ -93,7 +94,16 @@ module _ (k : Kind) (a : List ℕ) (size : length a ≡ addressLength k) where
 pub kept : (k : Kind) (from to : List ℕ) (p q : ℕ) → length from ≡ addressLength k → length to ≡ addressLength k → PortFits k p → PortFits k q
     → Kept (recordOf k from to p q)
 kept k from to p q a b c d = (
-  record { source = held-zeros k from a; destination = held-zeros k to b; «source_port» = c; «destination_port» = d },
+  record {
+    clean = record {
+      source = held-zeros k from a;
+      destination = held-zeros k to b;
+      «source_port» = c;
+      «destination_port» = d;
+      checksum = absent-fits k;
+    };
+    absent = refl;
+  },
   held-size k from a,
   held-size k to b,
 )

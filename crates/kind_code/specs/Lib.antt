@@ -1,3 +1,4 @@
 pub mod Codes
 pub mod CodeTable
 pub mod CodeLaws
+pub mod States

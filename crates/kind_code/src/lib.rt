@@ -1,10 +1,12 @@
-// The kind codes of the stored form and of C connections. No public function has a `requires`.
+// The kind codes of the stored form and of C connections, and the bytes of a checksum state. No public function has a `requires`.
+use record::Checksum;
 use record::Family;
 use record::Kind;
 use record::Transport;
 ghost use mathlib.Core.Path.{_≡_};
 ghost use Rattle.record.specs.KnownFamily.{toldFamily};
 ghost use Rattle.kind_code.specs.Codes.{codeOf, kindOf};
+ghost use Rattle.kind_code.specs.States.{stateByte, stateOf, toldState};
 
 // The code of a kind.
 pub fn code_of(kind: Kind) -> u8
@@ -42,5 +44,32 @@ pub fn kind_of(code: u8) -> Family
         0x31 => Family::Known(Kind::Unix(Transport::Stream)),
         0x32 => Family::Known(Kind::Unix(Transport::Datagram)),
         _ => Family::Unknown,
+    }
+}
+
+// What a byte says of a checksum state.
+pub enum State {
+    Known(Checksum),
+    Unknown,
+}
+
+// The byte of a state.
+pub fn state_byte(checksum: Checksum) -> u8
+    ensures { λ r. ⌜ r ≡ stateByte checksum ⌝ }
+{
+    match checksum {
+        Checksum::Absent => 0,
+        Checksum::Matched => 1,
+    }
+}
+
+// The state of a byte.
+pub fn state_of(byte: u8) -> State
+    ensures { λ r. ⌜ toldState r ≡ stateOf byte ⌝ }
+{
+    match byte {
+        0 => State::Known(Checksum::Absent),
+        1 => State::Known(Checksum::Matched),
+        _ => State::Unknown,
     }
 }

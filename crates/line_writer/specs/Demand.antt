@@ -16,9 +16,9 @@ use Rattle.record.specs.declared.Transport.the-variants.{Stream, Datagram}
 use Rattle.record.specs.declared.Kind.{Kind}
 use Rattle.record.specs.declared.Kind.the-variants.{Local, Unspecified, Ip4, Ip6, Unix}
 use Rattle.record.specs.declared.Record.{Record}
-use Rattle.record.specs.Records.{Clean, Sized}
-use Rattle.clean.specs.Unused.{cleanTest}
-use Rattle.clean.specs.UnusedLaws.{clean-test}
+use Rattle.record.specs.Records.{Plain, Sized}
+use Rattle.clean.specs.Unused.{plainTest}
+use Rattle.clean.specs.UnusedLaws.{plain-test}
 use Rattle.header.specs.Header.{Whole}
 use Rattle.header.specs.Demand.{Judges}
 use Rattle.fields.specs.LineFields.{lined}
@@ -50,7 +50,7 @@ form-test (Ip6 Stream) tcp6 = refl
 -- the line is a whole header that says the record, with version 1 and no TLV area
 pub line-whole : (r : Record) → CarriedByLine r → Whole (writtenLine r) (lined r)
 unfolding writtenLine
-line-whole r w = inl (line-of (r .kind) r refl (form-test (r .kind) (w .form)) (w .sized) (w .clean), refl, refl)
+line-whole r w = inl (line-of (r .kind) r refl (form-test (r .kind) (w .form)) (w .sized) (w .plain), refl, refl)
 
 -- with any bytes behind it, it is accepted with that record, version 1 and its length
 pub line-read : (r : Record) → CarriedByLine r → (t : List ℕ) → Judges (accepted (lined r) (length (writtenLine r))) (writtenLine r ++ t)
@@ -62,7 +62,7 @@ line-read r w t = (
 -- what each answer means: "Writers check 10, 11, 12, 13, 14 in this order"
 pub data Means (r : Record) (room : ℕ) : WriteAnswer → Type 0 where
   no-form : (HasForm (r .kind) → ⊥) → Means r room (refuses 10)
-  unused : HasForm (r .kind) → (Clean r → ⊥) → Means r room (refuses 11)
+  unused : HasForm (r .kind) → (Plain r → ⊥) → Means r room (refuses 11)
   too-short : CarriedByLine r → room < length (writtenLine r) → Means r room (refuses 14)
   written : CarriedByLine r → length (writtenLine r) ≤ room → Means r room (wrote (length (writtenLine r)))
 
@@ -72,11 +72,11 @@ answer-means r room sized =
     pick-by P (hasForm (r .kind))
     (λ test.
     let form = form-tested (r .kind) test in
-    pick-by P (cleanTest r)
+    pick-by P (plainTest r)
     (λ test.
-    let carried : CarriedByLine r = record { sized = sized; form = form; clean = clean-test r sized .0 test } in
+    let carried : CarriedByLine r = record { sized = sized; form = form; plain = plain-test r sized .0 test } in
     pick-by P (leb (length (writtenLine r)) room) (λ t. written carried (leb-true _ _ t)) (λ t. too-short carried (leb-false _ _ t)))
-    (λ test. unused form (λ clean. never (sym test ∙ clean-test r sized .1 clean))))
+    (λ test. unused form (λ plain. never (sym test ∙ plain-test r sized .1 plain))))
     (λ test. no-form (λ form. never (sym test ∙ form-test (r .kind) form)))
 
 -- it accepts only the records that version 1 can carry, where there is room, and answers the line's length
@@ -89,7 +89,7 @@ line-accepted r room n sized e = by (lineAnswer r room) e (answer-means r room s
 
 -- and all of them
 pub line-written : (r : Record) (room : ℕ) → CarriedByLine r → length (writtenLine r) ≤ room → lineAnswer r room ≡ wrote (length (writtenLine r))
-line-written r room w fits = rw (form-test (r .kind) (w .form), clean-test r (w .sized) .1 (w .clean), le-leb _ _ fits)
+line-written r room w fits = rw (form-test (r .kind) (w .form), plain-test r (w .sized) .1 (w .plain), le-leb _ _ fits)
 
 -- the whole demand: whatever the writer accepts, what it wrote is read back as that record, with any bytes behind it, and its length is the answer
 pub line-demand : (r : Record) (room n : ℕ) → Sized r → lineAnswer r room ≡ wrote n → (t : List ℕ) → Judges (accepted (lined r) n) (writtenLine r ++ t)
@@ -111,11 +111,11 @@ reads-back r before after sized output n is t =
 -- "Longest TCP4 line 56 bytes, TCP6 104"; an UNKNOWN line is written with 15
 pub longest4 : (r : Record) → CarriedByLine r → r .kind ≡ Ip4 Stream → length (writtenLine r) ≤ 56
 unfolding writtenLine
-longest4 r w kind = rw kind (longest-tcp4 _ r (tcp4-line r kind (w .sized) (w .clean)))
+longest4 r w kind = rw kind (longest-tcp4 _ r (tcp4-line r kind (w .sized) (w .plain)))
 
 pub longest6 : (r : Record) → CarriedByLine r → r .kind ≡ Ip6 Stream → length (writtenLine r) ≤ 104
 unfolding writtenLine
-longest6 r w kind = rw kind (longest-tcp6 _ r (tcp6-line r kind (w .sized) (w .clean)))
+longest6 r w kind = rw kind (longest-tcp6 _ r (tcp6-line r kind (w .sized) (w .plain)))
 
 pub unknown-length : (r : Record) → r .kind ≡ Unspecified → length (writtenLine r) ≡ 15
 unfolding writtenLine

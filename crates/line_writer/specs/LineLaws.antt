@@ -16,7 +16,7 @@ use Rattle.record.specs.declared.Kind.{Kind}
 use Rattle.record.specs.declared.Kind.the-variants.{Local, Unspecified, Ip4, Ip6, Unix}
 use Rattle.record.specs.declared.Record.{Record}
 use Rattle.record.specs.Kinds.{addressLength}
-use Rattle.record.specs.Records.{recordOf, bare, PortFits, Clean, Sized}
+use Rattle.record.specs.Records.{recordOf, bare, PortFits, Plain, Sized}
 use Rattle.address_block.specs.AddressBlockLaws.{address-fits, made-again}
 use Rattle.header.specs.Line.{TcpLine, Ip6Address, Line}
 use Rattle.fields.specs.Facts.{longest-tcp4, longest-tcp6}
@@ -68,34 +68,34 @@ module _ (word : List ℕ) (k : Kind) (Address : List ℕ → List ℕ → Type 
           says = e;
         }
 
-    tcp-line : (r : Record) → r .kind ≡ k → Sized r → Clean r → TcpLine word k Address (tcpText word address r) r
-    tcp-line r kind sized clean =
+    tcp-line : (r : Record) → r .kind ≡ k → Sized r → Plain r → TcpLine word k Address (tcpText word address r) r
+    tcp-line r kind sized plain =
         tcp-spoken r r sized
-        (sym (made-again r sized clean)
+        (sym (made-again r sized plain)
         ∙ ap (λ (j : Kind). recordOf j (take (addressLength j) (r .source)) (take (addressLength j) (r .destination)) (r .«source_port») (r .«destination_port»)) kind)
 
-bare-record : (r : Record) → r .kind ≡ Unspecified → Sized r → Clean r → r ≡ bare Unspecified
-bare-record r kind sized clean =
+bare-record : (r : Record) → r .kind ≡ Unspecified → Sized r → Plain r → r ≡ bare Unspecified
+bare-record r kind sized plain =
     let k : Kind → Type 0 = λ (j : Kind). PortFits j (r .«source_port») × PortFits j (r .«destination_port») in
-    let ports = subst k kind (clean .«source_port», clean .«destination_port») in
-    sym (made-again r sized clean)
+    let ports = subst k kind (plain .clean .«source_port», plain .clean .«destination_port») in
+    sym (made-again r sized plain)
     ∙ ap (λ (j : Kind). recordOf j (take (addressLength j) (r .source)) (take (addressLength j) (r .destination)) (r .«source_port») (r .«destination_port»)) kind
     ∙ ap₂ (λ (p q : ℕ). recordOf Unspecified [] [] p q) (ports .0) (ports .1)
 
-pub tcp4-line : (r : Record) → r .kind ≡ Ip4 Stream → Sized r → Clean r → TcpLine (ascii "TCP4") (Ip4 Stream) Ip4Address (lineText (Ip4 Stream) r) r
+pub tcp4-line : (r : Record) → r .kind ≡ Ip4 Stream → Sized r → Plain r → TcpLine (ascii "TCP4") (Ip4 Stream) Ip4Address (lineText (Ip4 Stream) r) r
 tcp4-line = tcp-line (ascii "TCP4") (Ip4 Stream) Ip4Address octetsText octets-text
 
-pub tcp6-line : (r : Record) → r .kind ≡ Ip6 Stream → Sized r → Clean r → TcpLine (ascii "TCP6") (Ip6 Stream) Ip6Address (lineText (Ip6 Stream) r) r
+pub tcp6-line : (r : Record) → r .kind ≡ Ip6 Stream → Sized r → Plain r → TcpLine (ascii "TCP6") (Ip6 Stream) Ip6Address (lineText (Ip6 Stream) r) r
 tcp6-line = tcp-line (ascii "TCP6") (Ip6 Stream) Ip6Address (λ (a : List ℕ). groupsText (groupsOf a)) ip6-text
 
-pub line-of : (k : Kind) (r : Record) → r .kind ≡ k → hasForm k ≡ true → Sized r → Clean r → Line (lineText k r) r
-line-of Local r kind form sized clean = absurd (let z : _≡_ {A = ℕ} 0 1 = cc in omega arith)
-line-of Unspecified r kind form sized clean = inl (inl refl, bare-record r kind sized clean)
-line-of (Ip4 Stream) r kind form sized clean = inr (inl (tcp4-line r kind sized clean))
-line-of (Ip4 Datagram) r kind form sized clean = absurd (let z : _≡_ {A = ℕ} 0 1 = cc in omega arith)
-line-of (Ip6 Stream) r kind form sized clean = inr (inr (tcp6-line r kind sized clean))
-line-of (Ip6 Datagram) r kind form sized clean = absurd (let z : _≡_ {A = ℕ} 0 1 = cc in omega arith)
-line-of (Unix t) r kind form sized clean = absurd (let z : _≡_ {A = ℕ} 0 1 = cc in omega arith)
+pub line-of : (k : Kind) (r : Record) → r .kind ≡ k → hasForm k ≡ true → Sized r → Plain r → Line (lineText k r) r
+line-of Local r kind form sized plain = absurd (let z : _≡_ {A = ℕ} 0 1 = cc in omega arith)
+line-of Unspecified r kind form sized plain = inl (inl refl, bare-record r kind sized plain)
+line-of (Ip4 Stream) r kind form sized plain = inr (inl (tcp4-line r kind sized plain))
+line-of (Ip4 Datagram) r kind form sized plain = absurd (let z : _≡_ {A = ℕ} 0 1 = cc in omega arith)
+line-of (Ip6 Stream) r kind form sized plain = inr (inr (tcp6-line r kind sized plain))
+line-of (Ip6 Datagram) r kind form sized plain = absurd (let z : _≡_ {A = ℕ} 0 1 = cc in omega arith)
+line-of (Unix t) r kind form sized plain = absurd (let z : _≡_ {A = ℕ} 0 1 = cc in omega arith)
 
 -- "Longest TCP4 line 56 bytes, TCP6 104": whatever an array holds behind its address
 line-fits : (k : Kind) (r : Record) → Sized r → length (lineText k r) ≤ 104

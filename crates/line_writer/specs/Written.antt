@@ -8,8 +8,8 @@ use Rattle.record.specs.declared.Transport.the-variants.{Stream, Datagram}
 use Rattle.record.specs.declared.Kind.{Kind}
 use Rattle.record.specs.declared.Kind.the-variants.{Local, Unspecified, Ip4, Ip6, Unix}
 use Rattle.record.specs.declared.Record.{Record}
-use Rattle.record.specs.Records.{Clean, Sized}
-use Rattle.clean.specs.Unused.{cleanTest}
+use Rattle.record.specs.Records.{Plain, Sized}
+use Rattle.clean.specs.Unused.{plainTest}
 use Rattle.answer.specs.Answers.{WriteAnswer, wrote, refuses}
 use Rattle.line_text.specs.LineText.{writtenLine}
 
@@ -33,13 +33,13 @@ hasForm (Unix t) = false
 pub record CarriedByLine (r : Record) : Type 0 where
   pub sized : Sized r
   pub form : HasForm (r .kind)
-  pub clean : Clean r
+  pub plain : Plain r
 
 -- "Writers check 10, 11, 12, 13, 14 in this order; 12 and 13 are the version 2 writer's only"
 abbrev pub lineAnswer : (r : Record) (room : ℕ) → WriteAnswer
 lineAnswer r room =
     pick (hasForm (r .kind))
-    (pick (cleanTest r)
+    (pick (plainTest r)
     (pick (leb (length (writtenLine r)) room) (wrote (length (writtenLine r))) (refuses 14))
     (refuses 11))
     (refuses 10)

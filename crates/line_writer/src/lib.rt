@@ -2,7 +2,7 @@
 use answer::Fault;
 use answer::Written;
 use answer::is_written;
-use clean::clean;
+use clean::plain;
 use lent::put;
 use line_text::line;
 use record::Kind;
@@ -44,7 +44,7 @@ fn check(record: Record, n: usize, room: usize) -> Written
     if !has_form(kind) {
         return Written::Refused(Fault::Form);
     }
-    if !clean(record) {
+    if !plain(record) {
         return Written::Refused(Fault::Unused);
     }
     if room < n {

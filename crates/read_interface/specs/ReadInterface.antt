@@ -1,4 +1,4 @@
--- What `dawnhawse_read` answers and leaves in the buffers that are lent to it: document 01's answers as numbers and bytes.
+-- What `dawnhawse_read` and `dawnhawse_read_checked` answer and leave in the buffers that are lent to it: document 01's answers as numbers and bytes.
 use mathlib.Core.Path.{_≡_}
 use mathlib.Core.Bool.{Bool, false}
 use mathlib.Core.List.{List, [], _∷_}
@@ -12,45 +12,50 @@ use Rattle.record.specs.declared.Kind.the-variants.{Unspecified}
 use Rattle.record.specs.declared.Record.{Record}
 use Rattle.record.specs.Records.{bare}
 use Rattle.header.specs.Header.{Header}
-use Rattle.answer.specs.declared.Verdict.{Verdict}
+use Rattle.checksum.specs.Checked.{CheckedVerdict, judged, wrong-checksum}
 use Rattle.lent.specs.Buffers.{over}
 use Rattle.numbers.specs.Numbers.{numbersSize}
 use Rattle.connection.specs.Connection.{connectionSize, connectionBytes}
 
--- "Numbered answers": the refusal's number; 0 is accepted, 255 is more
-abbrev pub answerNumber : Claim.Verdict Header → ℕ
-answerNumber (accepted h n) = 0
-answerNumber (more n) = 255
-answerNumber (refused k p) = k
+-- what a C caller is told: an answer, four numbers, and a record
+pub record Spoken : Type 0 where
+  pub answer : ℕ
+  pub numbers : List ℕ
+  pub «record» : Record
 
--- the header length, how few further bytes could make a whole header (document 02, K10), or the place; the version, and where the TLV area starts and its length: it is the header's last bytes
-abbrev pub numbersOf : Claim.Verdict Header → List ℕ
-numbersOf (accepted h n) = n ∷ h .version ∷ (n - length (h .area)) ∷ length (h .area) ∷ []
-numbersOf (more n) = n ∷ 0 ∷ 0 ∷ 0 ∷ []
-numbersOf (refused k p) = p ∷ 0 ∷ 0 ∷ 0 ∷ []
+-- a record that says nothing, where no header is accepted
+abbrev pub nobody : (answer first : ℕ) → Spoken
+nobody answer first = record { answer = answer; numbers = first ∷ 0 ∷ 0 ∷ 0 ∷ []; «record» = bare Unspecified }
 
--- the record of an accepted header; unspecified where nothing is accepted
-abbrev pub spokenRecord : Claim.Verdict Header → Record
-spokenRecord (accepted h n) = h .«record»
-spokenRecord (more n) = bare Unspecified
-spokenRecord (refused k p) = bare Unspecified
+-- "Numbered answers": the refusal's number; 0 is accepted, 255 is more. The numbers are the header length, how few further bytes could make a whole
+-- header (document 02, K10), or the place; the version, and where the TLV area starts and its length: it is the header's last bytes
+abbrev pub spoken : Claim.Verdict Header → Spoken
+spoken (accepted h n) =
+    record { answer = 0; numbers = n ∷ h .version ∷ (n - length (h .area)) ∷ length (h .area) ∷ []; «record» = h .«record» }
+spoken (more n) = nobody 255 n
+spoken (refused k p) = nobody k p
+
+-- "A checked reading gives 23, without a place" (document 02, K6)
+abbrev pub spokenChecked : CheckedVerdict → Spoken
+spokenChecked (judged v) = spoken v
+spokenChecked wrong-checksum = nobody 23 0
 
 -- "the output is shorter than what must be written": room for the numbers and the connection
 abbrev pub roomFor : List ℕ → List ℕ → Bool
 roomFor numbers connection = pick (leb numbersSize (length numbers)) (leb connectionSize (length connection)) false
 
 -- the answer of `dawnhawse_read`, and what it leaves in the two buffers: with too little room 14, and both as they were
-abbrev pub readAnswer : Claim.Verdict Header → List ℕ → List ℕ → ℕ
-readAnswer v numbers connection = pick (roomFor numbers connection) (answerNumber v) 14
+abbrev pub readAnswer : Spoken → List ℕ → List ℕ → ℕ
+readAnswer v numbers connection = pick (roomFor numbers connection) (v .answer) 14
 
-abbrev pub readNumbers : Claim.Verdict Header → List ℕ → List ℕ → List ℕ
-readNumbers v numbers connection = pick (roomFor numbers connection) (over (numbersOf v) numbers) numbers
+abbrev pub readNumbers : Spoken → List ℕ → List ℕ → List ℕ
+readNumbers v numbers connection = pick (roomFor numbers connection) (over (v .numbers) numbers) numbers
 
-abbrev pub readConnection : Claim.Verdict Header → List ℕ → List ℕ → List ℕ
+abbrev pub readConnection : Spoken → List ℕ → List ℕ → List ℕ
 readConnection v numbers connection =
-    pick (roomFor numbers connection) (over (connectionBytes (spokenRecord v)) connection) connection
+    pick (roomFor numbers connection) (over (connectionBytes (v .«record»)) connection) connection
 
--- what `dawnhawse_read` leaves of a verdict: its answer, the numbers and the connection
-abbrev pub ReadTold : Claim.Verdict Header → (numbers connection : List ℕ) → ℕ → (numbersLeft connectionLeft : List ℕ) → Type 0
+-- what `dawnhawse_read` and `dawnhawse_read_checked` leave of what they tell: the answer, the numbers and the connection
+abbrev pub ReadTold : Spoken → (numbers connection : List ℕ) → ℕ → (numbersLeft connectionLeft : List ℕ) → Type 0
 ReadTold v numbers connection answer numbersLeft connectionLeft =
     (answer ≡ readAnswer v numbers connection) × (numbersLeft ≡ readNumbers v numbers connection) × (connectionLeft ≡ readConnection v numbers connection)

@@ -1,4 +1,7 @@
 // What C callers are told of received bytes and of stored ones. No public function has a `requires`.
+use answer::Seen;
+use checked_reader::Check;
+use checked_reader::see_checked;
 use connection::CONNECTION;
 use connection::put_record;
 use connection::put_seen;
@@ -6,28 +9,33 @@ use numbers::NUMBERS;
 use numbers::outcome_number;
 use numbers::put_numbers;
 use numbers::tell;
+use reader::see;
+use record::Checksum;
+use record::Kind;
+use record::blank;
 ghost use Rattle.fields.specs.Exactness.{verdict as verdictOn};
 ghost use Rattle.stored_form.specs.Loading.{loadAnswer};
-ghost use Rattle.read_interface.specs.ReadInterface.{ReadTold};
+ghost use Rattle.checksum.specs.State.{checkedVerdict};
+ghost use Rattle.read_interface.specs.ReadInterface.{spoken, spokenChecked, ReadTold};
+ghost use Rattle.read_interface.specs.Telling.{Roomy, ToldSeen};
 ghost use Rattle.read_interface.specs.LoadInterface.{LoadTold};
 
-// What the bytes so far are: demand 3 of document 01. With room for 4 numbers and 221 bytes of a connection both are told; else nothing
-// is written.
-pub fn read(bytes: &[u8], numbers: &mut [u64], connection: &mut [u8]) -> u32
-    ensures { λ r. ⌜ ReadTold (verdictOn (now (bytes .entry))) (now (numbers .entry)) (now (connection .entry)) r (now (numbers .exit)) (now (connection .exit)) ⌝ }
+// Tells what is seen in the bytes, with this state in the connection.
+fn tell_seen(
+    bytes: &[u8],
+    seen: Seen,
+    checksum: Checksum,
+    numbers: &mut [u64],
+    connection: &mut [u8],
+) -> u32
+    requires { ⌜ Roomy (now numbers) (now connection) ⌝ }
+    ensures { λ r. ⌜ ToldSeen (now (bytes .entry)) seen checksum (now (numbers .entry)) (now (connection .entry)) r (now (numbers .exit)) (now (connection .exit)) ⌝ }
 {
-    if numbers.len() < NUMBERS {
-        return 14;
-    }
-    if connection.len() < CONNECTION {
-        return 14;
-    }
-    let seen = reader::see(bytes);
     let verdict = seen.verdict;
     let caller = seen.caller;
     let kind = caller.kind;
     let found = tell(verdict, kind, bytes.len());
-    put_seen(bytes, seen, connection);
+    put_seen(bytes, seen, checksum, connection);
     put_numbers(
         numbers,
         found.first,
@@ -38,7 +46,44 @@ pub fn read(bytes: &[u8], numbers: &mut [u64], connection: &mut [u8]) -> u32
     found.answer
 }
 
-// Loads a connection. With room for its 221 bytes it is told; else nothing is written.
+// What the bytes so far are: demand 3 of document 01. With room for 4 numbers and 222 bytes of a connection both are told; else nothing
+// is written.
+pub fn read(bytes: &[u8], numbers: &mut [u64], connection: &mut [u8]) -> u32
+    ensures { λ r. ⌜ ReadTold (spoken (verdictOn (now (bytes .entry)))) (now (numbers .entry)) (now (connection .entry)) r (now (numbers .exit)) (now (connection .exit)) ⌝ }
+{
+    if numbers.len() < NUMBERS {
+        return 14;
+    }
+    if connection.len() < CONNECTION {
+        return 14;
+    }
+    tell_seen(bytes, see(bytes), Checksum::Absent, numbers, connection)
+}
+
+// The same with the checksum judged (document 02, K6).
+pub fn read_checked(bytes: &[u8], numbers: &mut [u64], connection: &mut [u8]) -> u32
+    ensures { λ r. ⌜ ReadTold (spokenChecked (checkedVerdict (now (bytes .entry)))) (now (numbers .entry)) (now (connection .entry)) r (now (numbers .exit)) (now (connection .exit)) ⌝ }
+{
+    if numbers.len() < NUMBERS {
+        return 14;
+    }
+    if connection.len() < CONNECTION {
+        return 14;
+    }
+    let sight = see_checked(bytes);
+    let seen = sight.seen;
+    let check = sight.check;
+    match check {
+        Check::State(checksum) => tell_seen(bytes, seen, checksum, numbers, connection),
+        Check::Wrong => {
+            put_record(blank(Kind::Unspecified), connection);
+            put_numbers(numbers, 0, 0, 0, 0);
+            23
+        }
+    }
+}
+
+// Loads a connection. With room for its 222 bytes it is told; else nothing is written.
 pub fn load(stored: &[u8], connection: &mut [u8]) -> u32
     ensures { λ r. ⌜ LoadTold (loadAnswer (now (stored .entry))) (now (connection .entry)) r (now (connection .exit)) ⌝ }
 {

@@ -1,4 +1,4 @@
--- What a record holds (document 01, "The record").
+-- What a record holds (document 01, "The record"; document 02, K6).
 use mathlib.Core.Path.{_≡_}
 use mathlib.Core.List.{List, [], _++_}
 use Prim.Native.Nat.{ℕ, _-_, _<_}
@@ -6,6 +6,8 @@ use lib.ListN.{length, drop, replicate}
 use Rattle.exact.specs.Claim.{AllBytes}
 use Rattle.record.specs.declared.Kind.{Kind}
 use Rattle.record.specs.declared.Kind.the-variants.{Local, Unspecified, Ip4, Ip6, Unix}
+use Rattle.record.specs.declared.Checksum.{Checksum}
+use Rattle.record.specs.declared.Checksum.the-variants.{Absent}
 use Rattle.record.specs.declared.Record.{Record}
 use Rattle.record.specs.Kinds.{addressLength}
 
@@ -14,13 +16,17 @@ abbrev pub held : List ℕ → List ℕ
 held a = a ++ replicate (108 - length a) 0
 
 -- the record of these parts
-abbrev pub recordWith : Kind → List ℕ → List ℕ → ℕ → ℕ → Record
-recordWith k source destination p q =
-    record { kind = k; source = source; destination = destination; «source_port» = p; «destination_port» = q }
+abbrev pub recordWith : Kind → List ℕ → List ℕ → ℕ → ℕ → Checksum → Record
+recordWith k source destination p q c =
+    record { kind = k; source = source; destination = destination; «source_port» = p; «destination_port» = q; checksum = c }
 
--- the record of a kind, with its addresses and ports
+-- the record of a kind, with its addresses and ports, as "the plain reader, whose state is always absent" gives it (document 02, K6)
 abbrev pub recordOf : Kind → List ℕ → List ℕ → ℕ → ℕ → Record
-recordOf k from to p q = recordWith k (held from) (held to) p q
+recordOf k from to p q = recordWith k (held from) (held to) p q Absent
+
+-- the record with this state
+abbrev pub withChecksum : Checksum → Record → Record
+withChecksum c r = recordWith (r .kind) (r .source) (r .destination) (r .«source_port») (r .«destination_port») c
 
 -- a record of a kind without addresses
 abbrev pub bare : Kind → Record
@@ -34,12 +40,26 @@ PortFits (Ip4 t) p = p < 65536
 PortFits (Ip6 t) p = p < 65536
 PortFits (Unix t) p = p ≡ 0
 
--- "Address bytes and ports that a kind does not use are zero"
+-- matched "beside local or unspecified" is 11 "always" (document 02, K6)
+abbrev pub StateFits : Kind → Checksum → Type 0
+StateFits Local c = c ≡ Absent
+StateFits Unspecified c = c ≡ Absent
+StateFits (Ip4 t) c = Unit {0}
+StateFits (Ip6 t) c = Unit {0}
+StateFits (Unix t) c = Unit {0}
+
+-- "Address bytes and ports that a kind does not use are zero", and the state may stand beside the kind
 pub record Clean (r : Record) : Type 0 where
   pub source : drop (addressLength (r .kind)) (r .source) ≡ replicate (108 - addressLength (r .kind)) 0
   pub destination : drop (addressLength (r .kind)) (r .destination) ≡ replicate (108 - addressLength (r .kind)) 0
   pub «source_port» : PortFits (r .kind) (r .«source_port»)
   pub «destination_port» : PortFits (r .kind) (r .«destination_port»)
+  pub checksum : StateFits (r .kind) (r .checksum)
+
+-- "Without it" (the request for a checksum), "in version 1, and for now in the stored form, matched is 11" (document 02, K6)
+pub record Plain (r : Record) : Type 0 where
+  pub clean : Clean r
+  pub absent : r .checksum ≡ Absent
 
 -- what holds of every record in memory: two arrays of 108 bytes, and ports of 16 bits
 pub record Sized (r : Record) : Type 0 where

@@ -1,8 +1,8 @@
-// The record: a kind, two addresses and two ports (document 01, "The record").
+// The record: a kind, two addresses, two ports (document 01, "The record") and a checksum state (document 02, K6).
 // No public function has a `requires`.
 ghost use mathlib.Core.Path.{_≡_};
 ghost use Rattle.record.specs.KnownFamily.{toldFamily};
-ghost use Rattle.record.specs.Records.{recordWith, bare};
+ghost use Rattle.record.specs.Records.{recordWith, withChecksum, bare};
 ghost use Rattle.record.specs.Kinds.{family, byteOf, addressLength, portLength, blockLength};
 
 // How a connection carries its bytes.
@@ -20,6 +20,12 @@ pub enum Kind {
     Unix(Transport),
 }
 
+// "The record gains a checksum state: absent, or matched."
+pub enum Checksum {
+    Absent,
+    Matched,
+}
+
 // Addresses of 4, 16 or 108 bytes are held by value, at the front of their array; bytes and ports that the kind does not use are zero.
 pub struct Record {
     pub kind: Kind,
@@ -27,6 +33,7 @@ pub struct Record {
     pub destination: [u8; 108],
     pub source_port: u16,
     pub destination_port: u16,
+    pub checksum: Checksum,
 }
 
 // The record of these parts.
@@ -36,8 +43,9 @@ pub fn record_with(
     destination: [u8; 108],
     source_port: u16,
     destination_port: u16,
+    checksum: Checksum,
 ) -> Record
-    ensures { λ r. ⌜ r ≡ recordWith kind source destination «source_port» «destination_port» ⌝ }
+    ensures { λ r. ⌜ r ≡ recordWith kind source destination «source_port» «destination_port» checksum ⌝ }
 {
     Record {
         kind,
@@ -45,14 +53,32 @@ pub fn record_with(
         destination,
         source_port,
         destination_port,
+        checksum,
     }
+}
+
+// The record with this state.
+pub fn with_checksum(record: Record, checksum: Checksum) -> Record
+    ensures { λ r. ⌜ r ≡ withChecksum checksum «record» ⌝ }
+{
+    let kind = record.kind;
+    let source = record.source;
+    let destination = record.destination;
+    record_with(
+        kind,
+        source,
+        destination,
+        record.source_port,
+        record.destination_port,
+        checksum,
+    )
 }
 
 // The record that says nothing of a caller, of this kind.
 pub fn blank(kind: Kind) -> Record
     ensures { λ r. ⌜ r ≡ bare kind ⌝ }
 {
-    record_with(kind, [0; 108], [0; 108], 0, 0)
+    record_with(kind, [0; 108], [0; 108], 0, 0, Checksum::Absent)
 }
 
 // What a byte says of a kind: byte 13 under PROXY, or a kind code.

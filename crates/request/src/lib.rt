@@ -1,7 +1,10 @@
 // What the bytes of a connection ask of a writer. No public function has a `requires`.
 use connection::CONNECTION;
 use exact::number;
+use kind_code::State;
 use kind_code::kind_of;
+use kind_code::state_of;
+use record::Checksum;
 use record::Family;
 use record::Kind;
 use record::Record;
@@ -24,10 +27,10 @@ fn address_at(bytes: &[u8], at: usize) -> [u8; 108]
     held
 }
 
-// The record of a connection of this kind.
-fn connection_of(kind: Kind, bytes: &[u8]) -> Record
+// The record of a connection of this kind and state.
+fn connection_of(kind: Kind, checksum: Checksum, bytes: &[u8]) -> Record
     requires { ⌜ length (now bytes) ≡ connectionSize ⌝ }
-    ensures { λ r. ⌜ r ≡ givenRecord kind (now (bytes .entry)) ⌝ }
+    ensures { λ r. ⌜ r ≡ givenRecord kind checksum (now (bytes .entry)) ⌝ }
 {
     let source = address_at(bytes, 1);
     let destination = address_at(bytes, 109);
@@ -37,6 +40,7 @@ fn connection_of(kind: Kind, bytes: &[u8]) -> Record
         destination,
         number(bytes[217], bytes[218]),
         number(bytes[219], bytes[220]),
+        checksum,
     )
 }
 
@@ -46,7 +50,7 @@ pub struct Asked {
     pub record: Record,
 }
 
-// What the bytes of a connection ask for: 18 for another length, 17 for an unknown kind code.
+// What the bytes of a connection ask for: 18 for another length, 17 for an unknown kind code or state.
 pub fn request(bytes: &[u8]) -> Asked
     ensures { λ r. ⌜ r ≡ requestOf (now (bytes .entry)) ⌝ }
 {
@@ -57,9 +61,15 @@ pub fn request(bytes: &[u8]) -> Asked
         };
     }
     match kind_of(bytes[0]) {
-        Family::Known(kind) => Asked {
-            number: 0,
-            record: connection_of(kind, bytes),
+        Family::Known(kind) => match state_of(bytes[221]) {
+            State::Known(checksum) => Asked {
+                number: 0,
+                record: connection_of(kind, checksum, bytes),
+            },
+            State::Unknown => Asked {
+                number: 17,
+                record: blank(Kind::Unspecified),
+            },
         },
         Family::Unknown => Asked {
             number: 17,

@@ -3,7 +3,7 @@ use address_block_writer::put_addresses;
 use answer::Fault;
 use answer::Written;
 use answer::is_written;
-use clean::clean;
+use clean::plain;
 use kind_code::code_of;
 use lent::put;
 use record::Record;
@@ -19,7 +19,7 @@ fn check(record: Record, room: usize) -> Written
     ensures { λ r. ⌜ toldWritten r ≡ storeAnswer «record» room ⌝ }
 {
     let kind = record.kind;
-    if !clean(record) {
+    if !plain(record) {
         return Written::Refused(Fault::Unused);
     }
     let n = 6 + block_length(kind);

@@ -16,11 +16,11 @@ use Rattle.record.specs.declared.Kind.{Kind}
 use Rattle.record.specs.declared.Kind.the-variants.{Local, Unspecified, Ip4, Ip6, Unix}
 use Rattle.record.specs.declared.Record.{Record}
 use Rattle.record.specs.Kinds.{blockLength}
-use Rattle.record.specs.Records.{Clean, Sized}
-use Rattle.clean.specs.Unused.{cleanTest}
-use Rattle.clean.specs.UnusedLaws.{clean-test}
+use Rattle.record.specs.Records.{Plain, Sized}
+use Rattle.clean.specs.Unused.{plainTest}
+use Rattle.clean.specs.UnusedLaws.{plain-test}
 use Rattle.address_block.specs.AddressBlock.{blockRecord}
-use Rattle.address_block.specs.AddressBlockLaws.{block-size, record-again, block-again, block-clean, block-sized}
+use Rattle.address_block.specs.AddressBlockLaws.{block-size, record-again, block-again, block-plain, block-sized}
 use Rattle.answer.specs.Answers.{WriteAnswer, wrote, refuses, outputAfter}
 use Rattle.answer.specs.OutputLaws.{written-front}
 use Rattle.kind_code.specs.Codes.{kindOf}
@@ -40,16 +40,16 @@ pub lengths : (6 + blockLength Local ≡ 6) × (6 + blockLength Unspecified ≡ 
 lengths = (refl, refl, refl, refl, refl)
 
 -- "reading it returns the record"
-pub load-stored : (r : Record) → Sized r → Clean r → loadAnswer (stored r) ≡ loads r
+pub load-stored : (r : Record) → Sized r → Plain r → loadAnswer (stored r) ≡ loads r
 unfolding stored
-load-stored r sized clean =
+load-stored r sized plain =
     let size = stored-length r sized in
-    answer-accepted (stored r) (r .kind) (omega arith) refl refl (code-kind (r .kind)) size ∙ ap loads (record-again r sized clean)
+    answer-accepted (stored r) (r .kind) (omega arith) refl refl (code-kind (r .kind)) size ∙ ap loads (record-again r sized plain)
 
 -- "One record, one byte string"
-pub stored-one : (r q : Record) → Sized r → Clean r → Sized q → Clean q → stored r ≡ stored q → r ≡ q
-stored-one r q sized clean sized′ clean′ e =
-    ap loadedRecord (sym (load-stored r sized clean) ∙ ap loadAnswer e ∙ load-stored q sized′ clean′)
+pub stored-one : (r q : Record) → Sized r → Plain r → Sized q → Plain q → stored r ≡ stored q → r ≡ q
+stored-one r q sized plain sized′ plain′ e =
+    ap loadedRecord (sym (load-stored r sized plain) ∙ ap loadAnswer e ∙ load-stored q sized′ plain′)
 
 -- ── what is read, written again ──
 -- the first six bytes, and the rest
@@ -87,7 +87,7 @@ module _ (s : List ℕ) (bytes : AllBytes s) where
         let a₅ = kind-code (getD s 5 0) k code in
         let whole = six s long in
         let block = block-again k b n v in
-        record { same = cc; clean = block-clean k b n v; sized = block-sized k b n v }
+        record { same = cc; plain = block-plain k b n v; sized = block-sized k b n v }
 
     again-kind : (o : Option Kind) → kindOf (getD s 5 0) ≡ o → Again (loadKind o s)
     again-kind none code = λ r e. not-loaded _ r e
@@ -115,27 +115,27 @@ module _ (s : List ℕ) (bytes : AllBytes s) where
       by : (a : LoadAnswer) → loadAnswer s ≡ a → LoadMeans s a
       by (loads r) e =
           let form = load-again r e in
-          loaded r form (λ q other. stored-one q r (other .sized) (other .clean) (form .sized) (form .clean) (other .same ∙ sym (form .same)))
+          loaded r form (λ q other. stored-one q r (other .sized) (other .plain) (form .sized) (form .plain) (other .same ∙ sym (form .same)))
       by (noRecord k) e =
-          refused k (λ r form. not-loaded k r (sym e ∙ ap loadAnswer (sym (form .same)) ∙ load-stored r (form .sized) (form .clean)))
+          refused k (λ r form. not-loaded k r (sym e ∙ ap loadAnswer (sym (form .same)) ∙ load-stored r (form .sized) (form .plain)))
 
 -- ── the writer ──
 pub answer-means : (r : Record) (room : ℕ) → Sized r → Means r room (storeAnswer r room)
 answer-means r room sized =
     let P : WriteAnswer → Type 0 = Means r room in
-    pick-by P (cleanTest r)
+    pick-by P (plainTest r)
     (λ test.
-    let clean = clean-test r sized .0 test in
-    pick-by P (leb (length (stored r)) room) (λ t. written clean (leb-true _ _ t)) (λ t. too-short clean (leb-false _ _ t)))
-    (λ test. unused (λ clean. let e = clean-test r sized .1 clean in let z : _≡_ {A = ℕ} 0 1 = cc in omega arith))
+    let plain = plain-test r sized .0 test in
+    pick-by P (leb (length (stored r)) room) (λ t. written plain (leb-true _ _ t)) (λ t. too-short plain (leb-false _ _ t)))
+    (λ test. unused (λ plain. let e = plain-test r sized .1 plain in let z : _≡_ {A = ℕ} 0 1 = cc in omega arith))
 
--- what it accepts is clean and fits, and the answer is its length
-pub store-written : (r : Record) (room n : ℕ) → Sized r → storeAnswer r room ≡ wrote n → Clean r × (length (stored r) ≡ n) × (n ≤ room)
+-- what it accepts is plain and fits, and the answer is its length
+pub store-written : (r : Record) (room n : ℕ) → Sized r → storeAnswer r room ≡ wrote n → Plain r × (length (stored r) ≡ n) × (n ≤ room)
 store-written r room n sized e = by (storeAnswer r room) e (answer-means r room sized)
   where
-    by : (a : WriteAnswer) → a ≡ wrote n → Means r room a → Clean r × (length (stored r) ≡ n) × (n ≤ room)
+    by : (a : WriteAnswer) → a ≡ wrote n → Means r room a → Plain r × (length (stored r) ≡ n) × (n ≤ room)
     by (refuses k) q m = let z : _≡_ {A = ℕ} 0 1 = cc in absurd (omega arith)
-    by (wrote m) q (written clean fits) = let size : length (stored r) ≡ n = cc in (clean, size, omega arith)
+    by (wrote m) q (written plain fits) = let size : length (stored r) ≡ n = cc in (plain, size, omega arith)
 
 pub loads-back : (r : Record) (before after : List ℕ) → Sized r → after ≡ outputAfter (storeAnswer r (length before)) (stored r) before
     → LoadsBack r (storeAnswer r (length before)) after

@@ -5,7 +5,7 @@ use lib.Dec.{leb}
 use lib.ListN.{length}
 use Rattle.exact.specs.Pick.{pick}
 use Rattle.record.specs.declared.Record.{Record}
-use Rattle.clean.specs.Unused.{cleanTest}
+use Rattle.clean.specs.Unused.{plainTest}
 use Rattle.address_block.specs.AddressBlock.{addressBlock}
 use Rattle.answer.specs.Answers.{WriteAnswer, wrote, refuses}
 use Rattle.kind_code.specs.Codes.{codeOf}
@@ -25,4 +25,4 @@ stored r = mark ++ formVersion ++ codeOf (r .kind) ∷ addressBlock r
 -- "The writer: 11, 14"
 abbrev pub storeAnswer : Record → (room : ℕ) → WriteAnswer
 storeAnswer r room =
-    pick (cleanTest r) (pick (leb (length (stored r)) room) (wrote (length (stored r))) (refuses 14)) (refuses 11)
+    pick (plainTest r) (pick (leb (length (stored r)) room) (wrote (length (stored r))) (refuses 14)) (refuses 11)

@@ -22,7 +22,7 @@ returns c =
     let n = length .address-length .ensures in
     c .record-with .ensures
     ∙ same-record (x .kind) (from .held .ensures ∙ ap (λ (m : ℕ). held (take m (now (x .source)))) n)
-    (to .held2 .ensures ∙ ap (λ (m : ℕ). held (take m (now (x .destination)))) n) refl refl
+    (to .held2 .ensures ∙ ap (λ (m : ℕ). held (take m (now (x .destination)))) n) refl refl refl
 
 pub record-from-spec : {M : Type 1} → statement M
 record-from-spec =

@@ -1,50 +1,37 @@
 -- What is written is what `check` answers. A refusal leaves the output as it was; else the head, the address block and the area stand one behind the other.
 use Prim.Native.Nat.{ℕ, _+_, _≤_, _<_}
 use mathlib.Core.Path.{_≡_, sym, ap, _∙_, subst}
-use mathlib.Core.List.{List, _++_, append-assoc}
+use mathlib.Core.List.{List, _++_}
 use native.Mathlib.Omega.{arith}
 use borrow.Author.Needs.{needs}
 use borrow.Author.Tests.{not-true, not-false}
 use denote.Ref.{now}
-use lib.ListN.{length, drop, length-append}
+use lib.ListN.{length, drop}
 use Rattle.record.specs.declared.Record.{Record}
 use Rattle.record.specs.Kinds.{blockLength}
 use Rattle.record.specs.Records.{Sized}
-use Rattle.address_block.specs.AddressBlock.{addressBlock}
-use Rattle.address_block.specs.AddressBlockLaws.{block-size}
-use Rattle.lent.specs.Placed.{placed}
-use Rattle.lent.specs.PlacedLaws.{placed-then, placed-start}
+use Rattle.lent.specs.PlacedLaws.{placed-start}
 use Rattle.record.proofs.InMemory.{in-memory}
 use Rattle.answer.specs.Answers.{WriteAnswer, wrote, toldWritten, outputAfter}
 use Rattle.answer.specs.OutputLaws.{output-refused, is-wrote, output-written}
 use Rattle.head_writer.specs.Head.{headOf}
-use Rattle.block_writer.specs.Written.{blockOf, writtenBlock, CarriedByBlock, blockAnswer}
-use Rattle.block_writer.proofs.WrittenLaws.{block-length}
+use Rattle.block_writer.specs.Written.{blockOf, writtenBlock, CarriedByBlock, blockAnswer, blockPlaced}
+use Rattle.block_writer.proofs.WrittenLaws.{block-length, block-placed}
 use Rattle.block_writer.specs.Demand.{Means, answer-means, block-accepted, ReadsBack, reads-back}
 use Rattle.block_writer.proofs.write_block.Statement.{statement}
 use Rattle.block_writer.proofs.write_block.Tie as tie
 
--- three parts, put one behind the other from the start
-joined : (h a b d d₁ d₂ d₃ : List ℕ) (i j n : ℕ) → i ≡ length h → j ≡ length h + length a → n ≡ length h + length a + length b → n ≤ length d
-    → d₁ ≡ placed h 0 d → d₂ ≡ placed a i d₁ → d₃ ≡ placed b j d₂ → d₃ ≡ h ++ (a ++ b) ++ drop n d
-joined h a b d d₁ d₂ d₃ i j n ei ej en room e₁ e₂ e₃ =
-    let ha = length-append h a in
-    let hab = length-append (h ++ a) b in
-    let two = placed-then h a d d₁ d₂ 0 i e₁ e₂ (omega arith) (omega arith) in
-    let three = placed-then (h ++ a) b d d₂ d₃ 0 j two e₃ (omega arith) (omega arith) in
-    placed-start (h ++ a ++ b) d d₃ n three (omega arith) room ∙ ap (λ (t : List ℕ). t ++ drop n d) (append-assoc h a b)
-
-module _ (r : Record) (area : List ℕ) (sized : Sized r) where
-  whole : (k n : ℕ) (d d₁ d₂ d₃ : List ℕ) → k ≡ blockLength (r .kind) → n ≡ length (writtenBlock r area) → n ≤ length d
-      → d₁ ≡ placed (headOf (r .kind) (k + length area)) 0 d → d₂ ≡ placed (addressBlock r) 16 d₁ → d₃ ≡ placed area (16 + k) d₂
-      → d₃ ≡ writtenBlock r area ++ drop n d
-  unfolding writtenBlock
-  whole k n d d₁ d₂ d₃ e size room e₁ e₂ e₃ =
-      let b = block-size r (sized .source) (sized .destination) in
-      let l = block-length r area sized in
-      let all : k + length area ≡ length (blockOf r area) = omega arith in
-      joined (headOf (r .kind) (length (blockOf r area))) (addressBlock r) area d d₁ d₂ d₃ 16 (16 + k) n (omega arith) (omega arith) (omega arith) room
-      (e₁ ∙ ap (λ (m : ℕ). placed (headOf (r .kind) m) 0 d) all) e₂ e₃
+whole : (r : Record) (area : List ℕ) → Sized r → (k n : ℕ) (d d₁ : List ℕ) → k ≡ blockLength (r .kind) → n ≡ length (writtenBlock r area) → n ≤ length d
+    → d₁ ≡ blockPlaced r (k + length area) area d → d₁ ≡ writtenBlock r area ++ drop n d
+unfolding writtenBlock
+whole r area sized k n d d₁ e size room put =
+    let l = block-length r area sized in
+    let all : k + length area ≡ length (blockOf r area) = omega arith in
+    placed-start (headOf (r .kind) (length (blockOf r area)) ++ blockOf r area) d d₁ n
+    (put
+    ∙ ap (λ (m : ℕ). blockPlaced r m area d) all
+    ∙ block-placed r area sized (length (blockOf r area)) d (omega arith))
+    (omega arith) room
 
 module _ (c : tie.After-check) where
   abbrev start : tie.Start
@@ -114,29 +101,24 @@ module _ (c : tie.After-block-length) where
       let h = carried .0 .small in
       omega arith
 
-add-put-head : tie.Need-add-put-head
-add-put-head c = let h = small c in omega arith
+add-put-block : tie.Need-add-put-block
+add-put-block c = let h = small c in omega arith
 
-cast-put-head : tie.Need-cast-put-head
-cast-put-head c = let h = small c in omega arith
-
-add-put : tie.Need-add-put
-add-put c = let h = small (c .before .before .before .before .before .before .before .before .before) in omega arith
+cast-put-block : tie.Need-cast-put-block
+cast-put-block c = let h = small c in omega arith
 
 returns-2 : tie.Need-returns-2
 returns-2 c =
-    let c₃ = c .before .before in
-    let c₂ = c₃ .before .before .before .before in
-    let c₁ = c₂ .before .before .before .before in
-    let sizes = c₁ .before .before in
+    let put = c .before .before in
+    let sizes = put .before .before in
     let d = checked sizes in
     promise d _
-    (whole (the-record d) (area d) (sized d) (sizes .block-length .result) (n sizes) _ _ _ _ (sizes .block-length .ensures) (sym (carried sizes .1))
-    (carried sizes .2) (c₁ .put-head .ensures) (c₂ .put-addresses .ensures) (c₃ .put .ensures)
+    (whole (the-record d) (area d) (sized d) (sizes .block-length .result) (n sizes) (out d) _ (sizes .block-length .ensures) (sym (carried sizes .1))
+    (carried sizes .2) (put .put-block .ensures)
     ∙ output-written (answer d) (text d) (out d) (n sizes) (some sizes .1))
 
 pub write-block-spec : {M : Type 1} → statement M
 write-block-spec =
     tie.close
-    (tie.spec (λ c κs. search needs) (λ c κs. search needs) returns (λ c κs. search needs) add-put-head cast-put-head (λ c κs. search needs)
-    (λ c κs. search needs) add-put (λ c κs. search needs) (λ c. search needs) returns-2)
+    (tie.spec (λ c κs. search needs) (λ c κs. search needs) returns (λ c κs. search needs) add-put-block cast-put-block (λ c κs. search needs)
+    (λ c. search needs) returns-2)

@@ -20,38 +20,55 @@ promise start e =
     (e, λ t. law .0 (sym e ∙ t), λ x. e ∙ law .1 x)
 
 module _ (c : tie.After-zero-from) where
-  abbrev connection : Record
-  connection = c .before .before .before .before .args .r
+  abbrev the-record : Record
+  the-record = c .before .before .before .before .args .r
 
-  first : cleanAddress (connection .kind) (connection .source) ≡ c .zero-from .result
-  first = ap (λ (n : ℕ). zeros (drop n (connection .source))) (sym (c .before .address-length .ensures)) ∙ sym (c .zero-from .ensures)
+  first : cleanAddress (the-record .kind) (the-record .source) ≡ c .zero-from .result
+  first = ap (λ (n : ℕ). zeros (drop n (the-record .source))) (sym (c .before .address-length .ensures)) ∙ sym (c .zero-from .ensures)
 
 module _ (c : tie.After-zero-from2) where
-  second : cleanAddress (connection (c .before .before) .kind) (connection (c .before .before) .destination) ≡ c .zero-from2 .result
+  second : cleanAddress (the-record (c .before .before) .kind) (the-record (c .before .before) .destination) ≡ c .zero-from2 .result
   second =
-      ap (λ (n : ℕ). zeros (drop n (connection (c .before .before) .destination))) (sym (c .before .before .before .address-length .ensures))
+      ap (λ (n : ℕ). zeros (drop n (the-record (c .before .before) .destination))) (sym (c .before .before .before .address-length .ensures))
       ∙ sym (c .zero-from2 .ensures)
 
 returns : tie.Need-returns
 returns c =
-    let d = c .before .before .before .before in
-    let start = d .before .before .before .before .before .before in
-    promise start
+    let ports = c .before .before in
+    let d = ports .before .before .before .before in
+    promise (d .before .before .before .before .before .before)
     (rw (
       first (d .before .before),
       d .before .if1 .taken,
       second d,
-      c .before .before .before .if2 .taken,
-      ← (c .before .before .clean-port .ensures),
-      c .before .if3 .taken,
+      ports .before .before .before .if2 .taken,
+      ← (ports .before .before .clean-port .ensures),
+      ports .before .if3 .taken,
+      ← (ports .clean-port2 .ensures),
+      c .before .if4 .taken,
     )
-    (c .clean-port2 .ensures))
+    (c .clean-state .ensures))
 
 returns-2 : tie.Need-returns-2
 returns-2 c =
+    let ports = c .before in
+    let d = ports .before .before .before .before in
+    promise (d .before .before .before .before .before .before)
+    (rw (
+      first (d .before .before),
+      d .before .if1 .taken,
+      second d,
+      ports .before .before .before .if2 .taken,
+      ← (ports .before .before .clean-port .ensures),
+      ports .before .if3 .taken,
+      ← (ports .clean-port2 .ensures),
+      c .if4 .left,
+    ))
+
+returns-3 : tie.Need-returns-3
+returns-3 c =
     let d = c .before .before .before in
-    let start = d .before .before .before .before .before .before in
-    promise start
+    promise (d .before .before .before .before .before .before)
     (rw (
       first (d .before .before),
       d .before .if1 .taken,
@@ -61,17 +78,14 @@ returns-2 c =
       c .if3 .left,
     ))
 
-returns-3 : tie.Need-returns-3
-returns-3 c =
-    let d = c .before in
-    promise (d .before .before .before .before .before .before)
-    (rw (first (d .before .before), d .before .if1 .taken, second d, c .if2 .left))
-
 returns-4 : tie.Need-returns-4
-returns-4 c = promise (c .before .before .before .before .before) (rw (first (c .before), c .if1 .left))
+returns-4 c = let d = c .before in promise (d .before .before .before .before .before .before) (rw (first (d .before .before), d .before .if1 .taken, second d, c .if2 .left))
+
+returns-5 : tie.Need-returns-5
+returns-5 c = promise (c .before .before .before .before .before) (rw (first (c .before), c .if1 .left))
 
 pub clean-spec : {M : Type 1} → statement M
 clean-spec =
     tie.close
-    (tie.spec (λ c κs. search needs) (λ c κs. search needs) (λ c κs. search needs) (λ c κs. search needs) (λ c κs. search needs) returns returns-2
-    returns-3 returns-4)
+    (tie.spec (λ c κs. search needs) (λ c κs. search needs) (λ c κs. search needs) (λ c κs. search needs) (λ c κs. search needs)
+    (λ c κs. search needs) returns returns-2 returns-3 returns-4 returns-5)

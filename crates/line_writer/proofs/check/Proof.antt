@@ -7,7 +7,7 @@ use borrow.Author.Needs.{needs}
 use borrow.Author.Tests.{not-true, not-false, le-leb, lt-leb}
 use lib.ListN.{length}
 use Rattle.record.specs.declared.Record.{Record}
-use Rattle.clean.specs.Unused.{cleanTest}
+use Rattle.clean.specs.Unused.{plainTest}
 use Rattle.answer.specs.Answers.{wrote}
 use Rattle.line_text.specs.LineText.{writtenLine}
 use Rattle.line_writer.specs.Written.{hasForm}
@@ -21,7 +21,7 @@ form : (c : tie.Else1) → hasForm (c .before .before .args .«record» .kind) �
 form c = sym (c .before .has-form .ensures) ∙ not-false _ (c .if1 .left)
 
 returns-2 : tie.Need-returns-2
-returns-2 c = simp (form (c .before .before), sym (c .before .clean .ensures .0) ∙ not-true _ (c .if2 .taken))
+returns-2 c = simp (form (c .before .before), sym (c .before .plain .ensures .0) ∙ not-true _ (c .if2 .taken))
 
 module _ (c : tie.Else2) where
   abbrev start : tie.Start
@@ -30,8 +30,8 @@ module _ (c : tie.Else2) where
   abbrev the-record : Record
   the-record = start .args .«record»
 
-  tested : cleanTest the-record ≡ true
-  tested = sym (c .before .clean .ensures .0) ∙ not-false _ (c .if2 .left)
+  tested : plainTest the-record ≡ true
+  tested = sym (c .before .plain .ensures .0) ∙ not-false _ (c .if2 .left)
 
 returns-3 : tie.Need-returns-3
 returns-3 c =

@@ -1,5 +1,5 @@
 -- The two addresses and the two ports, each by its function.
-use mathlib.Core.Path.{_∙_}
+use mathlib.Core.Path.{refl, _∙_}
 use Rattle.record.specs.RecordLaws.{same-record}
 use borrow.Author.Needs.{needs}
 use Rattle.request.proofs.connection_of.Statement.{statement}
@@ -13,7 +13,7 @@ returns c =
     let from = to .before in
     let x = from .before .before .args in
     c .record-with .ensures
-    ∙ same-record (x .kind) (from .address-at .ensures) (to .address-at2 .ensures) (one .number .ensures) (two .number2 .ensures)
+    ∙ same-record (x .kind) (from .address-at .ensures) (to .address-at2 .ensures) (one .number .ensures) (two .number2 .ensures) refl
 
 pub connection-of-spec : {M : Type 1} → statement M
 connection-of-spec =

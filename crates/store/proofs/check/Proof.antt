@@ -7,7 +7,7 @@ use borrow.Author.Needs.{needs}
 use borrow.Author.Tests.{not-true, not-false, le-leb, lt-leb}
 use lib.ListN.{length}
 use Rattle.record.specs.declared.Record.{Record}
-use Rattle.clean.specs.Unused.{cleanTest}
+use Rattle.clean.specs.Unused.{plainTest}
 use Rattle.address_block.specs.AddressBlockLaws.{address-fits, port-fits}
 use Rattle.record.proofs.InMemory.{in-memory}
 use Rattle.answer.specs.Answers.{wrote}
@@ -17,7 +17,7 @@ use Rattle.store.proofs.check.Statement.{statement}
 use Rattle.store.proofs.check.Tie as tie
 
 returns : tie.Need-returns
-returns c = simp (sym (c .before .clean .ensures .0) ∙ not-true _ (c .if1 .taken))
+returns c = simp (sym (c .before .plain .ensures .0) ∙ not-true _ (c .if1 .taken))
 
 module _ (c : tie.After-block-length) where
   abbrev start : tie.Start
@@ -26,8 +26,8 @@ module _ (c : tie.After-block-length) where
   abbrev the-record : Record
   the-record = start .args .«record»
 
-  cleaned : cleanTest the-record ≡ true
-  cleaned = sym (c .before .before .clean .ensures .0) ∙ not-false _ (c .before .if1 .left)
+  cleaned : plainTest the-record ≡ true
+  cleaned = sym (c .before .before .plain .ensures .0) ∙ not-false _ (c .before .if1 .left)
 
   in-all : 6 + c .block-length .result ≡ length (stored the-record)
   in-all = let l = stored-length the-record (in-memory the-record _ (start .good .0)) in let e = c .block-length .ensures in omega arith

@@ -3,7 +3,7 @@ use Prim.Native.Nat.{ℕ}
 use denote.Ref.{now}
 use Rattle.exact.specs.Pick.{pick-by}
 use Rattle.record.specs.declared.Record.{Record}
-use Rattle.clean.specs.Unused.{cleanTest}
+use Rattle.clean.specs.Unused.{plainTest}
 use Rattle.stored_form.specs.Stored.{stored, storeAnswer}
 use Rattle.write_interface.proofs.WriteLaws.{Within, fits-at-last, refused, passed-on, part-inside, part-size}
 use borrow.Author.Needs.{needs}
@@ -11,7 +11,7 @@ use Rattle.write_interface.proofs.store.Statement.{statement}
 use Rattle.write_interface.proofs.store.Tie as tie
 
 within : (r : Record) (room : ℕ) → Within room (storeAnswer r room)
-within r room = pick-by (Within room) (cleanTest r) (λ t. fits-at-last _ room 14) (λ t. tt)
+within r room = pick-by (Within room) (plainTest r) (λ t. fits-at-last _ room 14) (λ t. tt)
 
 returns : tie.Need-returns
 returns c =

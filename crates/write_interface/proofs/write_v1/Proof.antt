@@ -3,7 +3,7 @@ use Prim.Native.Nat.{ℕ}
 use denote.Ref.{now}
 use Rattle.exact.specs.Pick.{pick-by}
 use Rattle.record.specs.declared.Record.{Record}
-use Rattle.clean.specs.Unused.{cleanTest}
+use Rattle.clean.specs.Unused.{plainTest}
 use Rattle.line_text.specs.LineText.{writtenLine}
 use Rattle.line_writer.specs.Written.{hasForm, lineAnswer}
 use Rattle.write_interface.proofs.WriteLaws.{Within, fits-at-last, refused, passed-on, part-inside, part-size}
@@ -13,7 +13,7 @@ use Rattle.write_interface.proofs.write_v1.Tie as tie
 
 within : (r : Record) (room : ℕ) → Within room (lineAnswer r room)
 within r room =
-    pick-by (Within room) (hasForm (r .kind)) (λ t. pick-by (Within room) (cleanTest r) (λ t. fits-at-last _ room 14) (λ t. tt)) (λ t. tt)
+    pick-by (Within room) (hasForm (r .kind)) (λ t. pick-by (Within room) (plainTest r) (λ t. fits-at-last _ room 14) (λ t. tt)) (λ t. tt)
 
 returns : tie.Need-returns
 returns c =

@@ -1,0 +1,102 @@
+-- `see_checked` ensures what is seen and the state; the answer is the one that is claimed.
+use mathlib.Core.Path.{_≡_, refl, sym, ap, _∙_, subst}
+use mathlib.Core.List.{List}
+use mathlib.Core.Option.{Option, some, none}
+use Prim.Native.Nat.{ℕ}
+use native.Mathlib.Omega.{arith}
+use denote.Ref.{now}
+use Rattle.exact.specs.Claim as Claim
+use Rattle.exact.specs.Claim.{accepted, more, refused}
+use Rattle.record.specs.declared.Kind.the-variants.{Unspecified}
+use Rattle.record.specs.declared.Checksum.{Checksum}
+use Rattle.record.specs.declared.Checksum.the-variants.{Absent}
+use Rattle.record.specs.declared.Record.{Record}
+use Rattle.record.specs.Records.{withChecksum, bare}
+use Rattle.header.specs.Header.{Header}
+use Rattle.fields.specs.Exactness.{verdict}
+use Rattle.answer.specs.declared.Verdict.{Verdict}
+use Rattle.answer.specs.declared.Verdict.the-variants.{Accepted, More, Refused}
+use Rattle.answer.specs.declared.Reading.{Reading}
+use Rattle.answer.specs.Sight.{readingOf}
+use Rattle.answer.specs.Answers.{Answers, toldVerdict, bareUnless}
+use Rattle.checksum.specs.Checked as Checked
+use Rattle.checksum.specs.Checked.{judged, wrong-checksum, Checks}
+use Rattle.checksum.specs.State.{stateOn, checkedBy, checkedVerdict}
+use Rattle.checksum.specs.Demand.{checks}
+use Rattle.checked_reader.specs.declared.Check.{Check}
+use Rattle.checked_reader.specs.declared.CheckedVerdict.the-variants.{Judged, WrongChecksum}
+use Rattle.checked_reader.specs.declared.CheckedReading.{CheckedReading}
+use Rattle.checked_reader.specs.CheckedReading.{toldCheck, asReading, toldChecked, unusedChecked}
+use borrow.Author.Needs.{needs}
+use Rattle.checked_reader.proofs.read_checked.Statement.{statement}
+use Rattle.checked_reader.proofs.read_checked.Tie as tie
+
+module _ (s : List ℕ) where
+  abbrev Promise : CheckedReading → Type 0
+  Promise x = (toldChecked s x ≡ checkedVerdict s) × unusedChecked x × Checks s (toldChecked s x)
+
+  promise : (x : CheckedReading) → toldChecked s x ≡ checkedVerdict s → unusedChecked x → Promise x
+  promise x e unused = (e, unused, subst (Checks s) (sym e) (checks s))
+
+  -- the record takes the state, and where nothing is accepted there is none to take
+  in-state : (w : Verdict) (r : Reading) (c : Checksum) → judged (toldVerdict s w (asReading w (withChecksum c (r .record)))) ≡ checkedBy (toldVerdict s w r) (some c)
+  in-state (Accepted n v) r c = refl
+  in-state (More n) r c = refl
+  in-state (Refused k p) r c = refl
+
+  bare-absent : (r : Record) (c : Checksum) → some c ≡ some Absent → r ≡ bare Unspecified → withChecksum c r ≡ bare Unspecified
+  bare-absent r c e u = let is : c ≡ Absent = cc in rw (is, u)
+
+  bare-still : (w : Verdict) (r : Reading) (v : Claim.Verdict Header) (c : Checksum) → toldVerdict s w r ≡ v → some c ≡ stateOn s v → bareUnless w r
+      → bareUnless w (asReading w (withChecksum c (r .record)))
+  bare-still (Accepted n x) r v c e f u = tt
+  bare-still (More n) r v c e f u = bare-absent (r .record) c (f ∙ ap (stateOn s) (sym e)) u
+  bare-still (Refused k p) r v c e f u = bare-absent (r .record) c (f ∙ ap (stateOn s) (sym e)) u
+
+  wrong-only : (v : Claim.Verdict Header) → none ≡ stateOn s v → wrong-checksum ≡ checkedBy v (stateOn s v)
+  wrong-only (accepted h n) e = ap (checkedBy (accepted h n)) e
+  wrong-only (more n) e = let z : _≡_ {A = ℕ} 0 1 = cc in absurd (omega arith)
+  wrong-only (refused k p) e = let z : _≡_ {A = ℕ} 0 1 = cc in absurd (omega arith)
+
+module _ (c : tie.After-see-checked) where
+  abbrev bytes : List ℕ
+  bytes = now (c .before .before .args .s)
+
+  abbrev reading : Reading
+  reading = readingOf bytes (c .see-checked .result .seen)
+
+  answers : Answers bytes (verdict bytes) reading
+  answers = c .see-checked .ensures .0 .answers
+
+  state : (x : Check) → c .see-checked .result .check ≡ x → toldCheck x ≡ stateOn bytes (verdict bytes)
+  state x e = ap toldCheck (sym e) ∙ c .see-checked .ensures .1 .1
+
+  told : (checksum : Checksum) → some checksum ≡ stateOn bytes (verdict bytes)
+      → judged (toldVerdict bytes (reading .verdict) (asReading (reading .verdict) (withChecksum checksum (reading .record)))) ≡ checkedVerdict bytes
+  told checksum e =
+      in-state bytes (reading .verdict) reading checksum
+      ∙ ap (λ (v : Claim.Verdict Header). checkedBy v (some checksum)) (answers .told)
+      ∙ ap (checkedBy (verdict bytes)) e
+
+returns : tie.Need-returns
+returns c =
+    let made = c .before in
+    let named = made .before .before in
+    let d = named .before .before .before in
+    let checksum = named .check .given .0 .0 in
+    let e = state d _ (named .check .given .1) in
+    subst (λ (r : Record). Promise (bytes d) (record { verdict = Judged (reading d .verdict); «record» = r }))
+    (sym (c .with-checksum .ensures ∙ ap (withChecksum checksum) (made .record-of .ensures)))
+    (promise (bytes d) (record { verdict = Judged (reading d .verdict); «record» = withChecksum checksum (reading d .record) }) (told d checksum e) (bare-still (bytes d) (reading d .verdict) (reading d) (verdict (bytes d)) checksum (answers d .told) e (answers d .unused)))
+
+returns-2 : tie.Need-returns-2
+returns-2 c =
+    let d = c .before .before .before .before in
+    promise (bytes d) (record { verdict = WrongChecksum; «record» = c .blank .result })
+    (wrong-only (bytes d) (verdict (bytes d)) (state d _ (c .before .enum-told .given .1))) (c .blank .ensures)
+
+pub read-checked-spec : {M : Type 1} → statement M
+read-checked-spec =
+    tie.close
+    (tie.spec (λ c κs. search needs) (λ c. search needs) (λ c κs. search needs) (λ c κs. search needs) (λ c. search needs) (λ c κs. search needs)
+    returns returns-2)

@@ -1,0 +1,2 @@
+pub mod CheckedReading
+pub mod First

@@ -1,0 +1,5 @@
+pub mod Checksum
+pub mod Checked
+pub mod ChecksumLaws
+pub mod State
+pub mod Demand
