@@ -1,7 +1,10 @@
-//! A connection's 221 bytes, as include/dawnhawse.h lays them out.
-use second::{Kind, Record, Transport};
+//! A connection's 222 bytes, as include/dawnhawse.h lays them out.
+use second::{Checksum, Kind, Record, Transport};
 
-pub const SIZE: usize = 221;
+pub const SIZE: usize = 222;
+
+/// Where the checksum state stands.
+pub const STATE: usize = 221;
 
 const CODES: [(u8, Kind); 8] = [
     (0x00, Kind::Local),
@@ -14,13 +17,16 @@ const CODES: [(u8, Kind); 8] = [
     (0x32, Kind::Unix(Transport::Datagram)),
 ];
 
+const STATES: [(u8, Checksum); 2] = [(0, Checksum::Absent), (1, Checksum::Matched)];
+
 pub fn bytes(record: &Record) -> [u8; SIZE] {
     let mut bytes = [0; SIZE];
     bytes[0] = CODES.iter().find(|(_, kind)| *kind == record.kind).expect("all kinds").0;
     bytes[1..109].copy_from_slice(&record.source);
     bytes[109..217].copy_from_slice(&record.destination);
     bytes[217..219].copy_from_slice(&record.source_port.to_be_bytes());
-    bytes[219..].copy_from_slice(&record.destination_port.to_be_bytes());
+    bytes[219..221].copy_from_slice(&record.destination_port.to_be_bytes());
+    bytes[STATE] = STATES.iter().find(|(_, checksum)| *checksum == record.checksum).expect("all states").0;
     bytes
 }
 
@@ -30,6 +36,8 @@ pub fn record(bytes: &[u8]) -> Result<Record, u32> {
         return Err(18);
     }
     let kind = CODES.iter().find(|(code, _)| *code == bytes[0]).ok_or(17u32)?.1;
+    let checksum = STATES.iter().find(|(state, _)| *state == bytes[STATE]).ok_or(17u32)?.1;
     let port = |at: usize| u16::from_be_bytes([bytes[at], bytes[at + 1]]);
-    Ok(Record::new(kind, &bytes[1..109], &bytes[109..217], [port(217), port(219)]))
+    let record = Record::new(kind, &bytes[1..109], &bytes[109..217], [port(217), port(219)]);
+    Ok(Record { checksum, ..record })
 }

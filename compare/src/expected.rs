@@ -29,15 +29,20 @@ fn with_connection(record: &Record, connection_len: usize) -> Vec<u8> {
     bytes
 }
 
+/// What is told of a caller, where there is room for it.
+fn told_of(record: &Record, answer: u32, four: [u64; 4], numbers_len: usize, connection_len: usize) -> Left {
+    if numbers_len < 4 || connection_len < SIZE {
+        return untouched(NO_ROOM, numbers_len, connection_len);
+    }
+    told(answer, four, numbers_len, with_connection(record, connection_len))
+}
+
 pub fn read(bytes: &[u8], numbers_len: usize, connection_len: usize) -> Left {
     reading(second::judge(bytes), numbers_len, connection_len)
 }
 
 /// What is told of bytes with this verdict.
 pub fn reading(verdict: Verdict, numbers_len: usize, connection_len: usize) -> Left {
-    if numbers_len < 4 || connection_len < SIZE {
-        return untouched(NO_ROOM, numbers_len, connection_len);
-    }
     let nobody = Record::blank(Kind::Unspecified);
     let (answer, four, record) = match verdict {
         Verdict::Accepted(header) => {
@@ -47,7 +52,19 @@ pub fn reading(verdict: Verdict, numbers_len: usize, connection_len: usize) -> L
         Verdict::More(least) => (MORE, [least as u64, 0, 0, 0], nobody),
         Verdict::Refused { number, place } => (u32::from(number), [place as u64, 0, 0, 0], nobody),
     };
-    told(answer, four, numbers_len, with_connection(&record, connection_len))
+    told_of(&record, answer, four, numbers_len, connection_len)
+}
+
+pub fn read_checked(bytes: &[u8], numbers_len: usize, connection_len: usize) -> Left {
+    checked_reading(second::judge_checked(bytes), numbers_len, connection_len)
+}
+
+/// What is told of bytes with this verdict, or of a wrong checksum.
+pub fn checked_reading(checked: Result<Verdict, u8>, numbers_len: usize, connection_len: usize) -> Left {
+    match checked {
+        Ok(verdict) => reading(verdict, numbers_len, connection_len),
+        Err(number) => told_of(&Record::blank(Kind::Unspecified), u32::from(number), [0; 4], numbers_len, connection_len),
+    }
 }
 
 pub fn step(area: &[u8], at: usize, numbers_len: usize) -> Left {
@@ -104,6 +121,10 @@ pub fn write_v2(connection: &[u8], area: &[u8], room: usize, numbers_len: usize)
     written(connection, room, numbers_len, |record, out| second::write_v2(record, area, out))
 }
 
+pub fn write_v2_checked(connection: &[u8], area: &[u8], room: usize, numbers_len: usize) -> Left {
+    written(connection, room, numbers_len, |record, out| second::write_v2_checked(record, area, out))
+}
+
 pub fn store(connection: &[u8], room: usize, numbers_len: usize) -> Left {
     written(connection, room, numbers_len, second::store)
 }
@@ -117,4 +138,8 @@ pub fn load(stored: &[u8], connection_len: usize) -> Left {
         Err(number) => (u32::from(number), Record::blank(Kind::Unspecified)),
     };
     Left { answer, numbers: Vec::new(), bytes: with_connection(&record, connection_len) }
+}
+
+pub fn crc32c(bytes: &[u8]) -> Left {
+    untouched(second::crc32c(bytes), 0, 0)
 }

@@ -69,6 +69,8 @@ pub fn short() -> Vec<Vec<u8>> {
     }
     all.push(block(0x21, 0x11, &with_tlvs(12, &[tlv(1, 255), tlv(2, 256)])));
     all.push(block(0x21, 0x11, &with_tlvs(12, &vec![tlv(5, 0); 40])));
+    // A wrong checksum, of which the plain reading says nothing.
+    all.push(block(0x21, 0x11, &with_tlvs(12, &[tlv(3, 4)])));
     all
 }
 

@@ -1,8 +1,8 @@
 //! Comparisons through the C interface.
-use crate::connection::SIZE;
+use crate::connection::{SIZE, STATE};
 use crate::outcome::Outcome;
 use crate::random::Random;
-use crate::{connection, expected, headers, hex, library, records, whole, Left, CONNECTION, NUMBERS};
+use crate::{checksum_headers, connection, expected, headers, hex, library, records, whole, Left, CONNECTION, NUMBERS};
 use second::Verdict;
 
 /// Byte 13 with every value under LOCAL and PROXY, and a block of each of these lengths: every prefix, also with bytes behind; of the longest those
@@ -21,13 +21,14 @@ pub fn bytes_13() -> Outcome {
     outcome
 }
 
-/// Record, version, length and TLV area of every input, or how few bytes are missing.
+/// Record, version, length and TLV area of every input, or how few bytes are missing; read plain and checked.
 pub fn readings<'a>(inputs: impl Iterator<Item = &'a Vec<u8>>) -> Outcome {
     let mut outcome = Outcome::new("");
     let mut more = 0;
     for input in inputs {
         let verdict = second::judge(input);
         more += usize::from(matches!(verdict, Verdict::More(_)));
+        outcome.reads_checked(input, verdict.clone());
         outcome.reads(input, verdict);
     }
     outcome.name = format!("whole readings, {more} of them \"more\"");
@@ -52,11 +53,14 @@ fn reads_back(outcome: &mut Outcome, written: &Left, connection: &[u8]) {
     }
 }
 
+/// Types of the TLVs in areas at random.
+const TYPES: [u8; 4] = [0, 1, 2, 3];
+
 /// Every place of each area, and two beyond it.
 pub fn steps(random: &mut Random, areas: usize) -> Outcome {
     let mut outcome = Outcome::new("steps");
     for _ in 0..areas {
-        let area = records::area(random);
+        let area = records::area(&TYPES, random);
         for at in (0..=area.len() + 2).chain([usize::MAX]) {
             let input = || format!("{} at {at}", hex(&area));
             outcome.same(&library::step(&area, at, NUMBERS), &expected::step(&area, at, NUMBERS), input);
@@ -70,7 +74,7 @@ pub fn steps(random: &mut Random, areas: usize) -> Outcome {
 pub fn lookups(random: &mut Random, areas: usize) -> Outcome {
     let mut outcome = Outcome::new("lookups");
     for _ in 0..areas {
-        let area = records::area(random);
+        let area = records::area(&TYPES, random);
         for wanted in 0..6 {
             for limit in (0..10).chain([usize::MAX]) {
                 outcome.same(&library::lookup(&area, wanted, limit, NUMBERS), &expected::lookup(&area, wanted, limit, NUMBERS), || {
@@ -83,17 +87,22 @@ pub fn lookups(random: &mut Random, areas: usize) -> Outcome {
 }
 
 /// Every room from none at all to three bytes more than what is to be written; for long output those at both ends.
-fn rooms(length: usize) -> impl Iterator<Item = usize> {
+pub fn rooms(length: usize) -> impl Iterator<Item = usize> {
     (0..length + 4).filter(move |room| length < 300 || *room < 20 || length < *room + 4)
 }
 
 /// Room for the numbers to spare, or now and then any number of them.
-fn numbers(random: &mut Random) -> usize {
+pub fn numbers(random: &mut Random) -> usize {
     if random.below(4) == 0 {
         random.below(NUMBERS)
     } else {
         NUMBERS
     }
+}
+
+/// The bytes of a connection's address block; 0 if it is none.
+pub fn address_block(connection: &[u8]) -> usize {
+    connection::record(connection).map_or(0, |record| record.kind.address_block_length())
 }
 
 /// Version 1 lines in every room; what is written reads back.
@@ -116,8 +125,8 @@ pub fn blocks(random: &mut Random, count: usize) -> Outcome {
     let mut outcome = Outcome::new("version 2 headers");
     for _ in 0..count {
         let connection = records::any(random);
-        let mut area = records::area(random);
-        let block = connection::record(&connection).map_or(0, |record| record.kind.address_block_length());
+        let mut area = records::area(&TYPES, random);
+        let block = address_block(&connection);
         if random.below(20) == 0 {
             area = records::longest_area(block, random);
         }
@@ -174,18 +183,38 @@ pub fn kind_codes() -> Outcome {
         for fill in [0, 1] {
             let mut connection = [fill; SIZE];
             connection[0] = code;
-            let input = || hex(&connection);
-            outcome.same(&library::write_v1(&connection, 300, NUMBERS), &expected::write_v1(&connection, 300, NUMBERS), input);
             for area in [&[][..], &[4, 0, 0]] {
-                outcome.same(&library::write_v2(&connection, area, 300, NUMBERS), &expected::write_v2(&connection, area, 300, NUMBERS), input);
+                writes(&mut outcome, &connection, area, 300, NUMBERS);
             }
-            outcome.same(&library::store(&connection, 300, NUMBERS), &expected::store(&connection, 300, NUMBERS), input);
         }
     }
     outcome
 }
 
-/// Every length of the numbers and of the connection, lent and given.
+/// Every state byte with every kind code, of connections of zeros, in room enough and none.
+pub fn states() -> Outcome {
+    let mut outcome = Outcome::new("state bytes");
+    for (code, state) in (0..=255).flat_map(|code| (0..=255).map(move |state| (code, state))) {
+        let mut connection = [0; SIZE];
+        connection[0] = code;
+        connection[STATE] = state;
+        for room in [0, 300] {
+            writes(&mut outcome, &connection, &[], room, NUMBERS);
+        }
+    }
+    outcome
+}
+
+/// Every writer with the same connection, room and numbers.
+fn writes(outcome: &mut Outcome, connection: &[u8], area: &[u8], room: usize, numbers: usize) {
+    let input = || format!("{} with {} and {numbers} numbers in {room} bytes", hex(connection), hex(area));
+    outcome.same(&library::write_v1(connection, room, numbers), &expected::write_v1(connection, room, numbers), input);
+    outcome.same(&library::write_v2(connection, area, room, numbers), &expected::write_v2(connection, area, room, numbers), input);
+    outcome.same(&library::write_v2_checked(connection, area, room, numbers), &expected::write_v2_checked(connection, area, room, numbers), input);
+    outcome.same(&library::store(connection, room, numbers), &expected::store(connection, room, numbers), input);
+}
+
+/// Every length of the numbers and of the connection, lent and given, up to eight bytes too many.
 pub fn buffers() -> Outcome {
     let mut outcome = Outcome::new("buffer lengths");
     let line = b"PROXY TCP4 192.168.0.1 192.168.0.11 56324 443\r\n";
@@ -193,27 +222,29 @@ pub fn buffers() -> Outcome {
     let mut form = vec![0; 18];
     second::store(&header.record, &mut form).expect("room");
     let area = [4, 0, 1, 9];
-    let given = [&connection::bytes(&header.record)[..], &[0; 3]].concat();
-    let mut writes = |given: &[u8], numbers: usize, room: usize| {
-        let input = || format!("{} with {numbers} numbers in {room} bytes", hex(given));
-        outcome.same(&library::write_v1(given, room, numbers), &expected::write_v1(given, room, numbers), input);
-        outcome.same(&library::write_v2(given, &area, room, numbers), &expected::write_v2(given, &area, room, numbers), input);
-        outcome.same(&library::store(given, room, numbers), &expected::store(given, room, numbers), input);
-    };
-    for numbers in 0..=NUMBERS {
-        for length in 0..=CONNECTION {
-            writes(&given[..length], numbers, 60);
+    let mut given = [&connection::bytes(&header.record)[..], &[0; 8]].concat();
+    for (state, numbers) in [0, 1].into_iter().flat_map(|state| (0..=NUMBERS).map(move |numbers| (state, numbers))) {
+        given[STATE] = state;
+        for length in 0..=given.len() {
+            writes(&mut outcome, &given[..length], &area, 60, numbers);
         }
         for room in 0..60 {
-            writes(&given[..SIZE], numbers, room);
+            writes(&mut outcome, &given[..SIZE], &area, room, numbers);
         }
     }
-    for numbers in 0..=NUMBERS {
-        for length in 0..=CONNECTION {
-            let input = || format!("{numbers} numbers and {length} bytes");
-            outcome.same(&library::read(line, numbers, length), &expected::read(line, numbers, length), input);
-            outcome.same(&library::load(&form, length), &expected::load(&form, length), input);
+    // Accepted, matched, with a wrong checksum, more and refused.
+    let [right, wrong] = [checksum_headers::right().swap_remove(0), checksum_headers::wrong().swap_remove(0)];
+    for (input, numbers) in [line, &right[..], &wrong, b"PROXY", b"GET"].into_iter().flat_map(|input| (0..=NUMBERS).map(move |numbers| (input, numbers))) {
+        for length in 0..=given.len() {
+            let told = || format!("{} with {numbers} numbers and {length} bytes", hex(input));
+            outcome.same(&library::read(input, numbers, length), &expected::read(input, numbers, length), told);
+            outcome.same(&library::read_checked(input, numbers, length), &expected::read_checked(input, numbers, length), told);
         }
+    }
+    for length in 0..=given.len() {
+        outcome.same(&library::load(&form, length), &expected::load(&form, length), || format!("{length} bytes"));
+    }
+    for numbers in 0..=NUMBERS {
         outcome.same(&library::step(&area, 0, numbers), &expected::step(&area, 0, numbers), || format!("{numbers} numbers"));
         outcome.same(&library::next(&area, 0, numbers), &expected::next(&area, 0, numbers), || format!("{numbers} numbers"));
         outcome.same(&library::lookup(&area, 4, 1, numbers), &expected::lookup(&area, 4, 1, numbers), || format!("{numbers} numbers"));

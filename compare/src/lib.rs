@@ -1,6 +1,11 @@
 //! The proved library and the second program on the same inputs: `library` calls the one through its C interface, `expected` says by the
 //! other what it must leave, `interface` compares the two on inputs made in `inputs` and `headers`, and `whole` on every prefix of whole headers.
+//! The checksum (document 02, K6) has its inputs in `checksum_headers`, and is compared in `crc32c`, `checked_reading` and `checked_writing`.
+pub mod checked_reading;
+pub mod checked_writing;
+pub mod checksum_headers;
 pub mod connection;
+pub mod crc32c;
 pub mod expected;
 pub mod headers;
 pub mod inputs;

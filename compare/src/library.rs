@@ -3,14 +3,18 @@ use crate::{Left, BYTE, NUMBER};
 
 extern "C" {
     fn dawnhawse_read(bytes: *const u8, bytes_len: usize, numbers: *mut u64, numbers_len: usize, connection: *mut u8, connection_len: usize) -> u32;
+    fn dawnhawse_read_checked(bytes: *const u8, bytes_len: usize, numbers: *mut u64, numbers_len: usize, connection: *mut u8, connection_len: usize) -> u32;
     fn dawnhawse_step(area: *const u8, area_len: usize, at: usize, numbers: *mut u64, numbers_len: usize) -> u32;
     fn dawnhawse_next(area: *const u8, area_len: usize, at: usize, numbers: *mut u64, numbers_len: usize) -> u32;
     fn dawnhawse_lookup(area: *const u8, area_len: usize, wanted: u8, limit: usize, numbers: *mut u64, numbers_len: usize) -> u32;
     fn dawnhawse_write_v1(connection: *const u8, connection_len: usize, out: *mut u8, out_len: usize, numbers: *mut u64, numbers_len: usize) -> u32;
     #[rustfmt::skip]
     fn dawnhawse_write_v2(connection: *const u8, connection_len: usize, area: *const u8, area_len: usize, out: *mut u8, out_len: usize, numbers: *mut u64, numbers_len: usize) -> u32;
+    #[rustfmt::skip]
+    fn dawnhawse_write_v2_checked(connection: *const u8, connection_len: usize, area: *const u8, area_len: usize, out: *mut u8, out_len: usize, numbers: *mut u64, numbers_len: usize) -> u32;
     fn dawnhawse_store(connection: *const u8, connection_len: usize, out: *mut u8, out_len: usize, numbers: *mut u64, numbers_len: usize) -> u32;
     fn dawnhawse_load(stored: *const u8, stored_len: usize, connection: *mut u8, connection_len: usize) -> u32;
+    fn dawnhawse_crc32c(bytes: *const u8, bytes_len: usize) -> u32;
 }
 
 /// How many canaries stand on either side.
@@ -57,6 +61,12 @@ pub fn read(bytes: &[u8], numbers_len: usize, connection_len: usize) -> Left {
     })
 }
 
+pub fn read_checked(bytes: &[u8], numbers_len: usize, connection_len: usize) -> Left {
+    lend(numbers_len, connection_len, |numbers, connection| unsafe {
+        dawnhawse_read_checked(bytes.as_ptr(), bytes.len(), numbers, numbers_len, connection, connection_len)
+    })
+}
+
 pub fn step(area: &[u8], at: usize, numbers_len: usize) -> Left {
     lend(numbers_len, 0, |numbers, _| unsafe { dawnhawse_step(area.as_ptr(), area.len(), at, numbers, numbers_len) })
 }
@@ -79,10 +89,21 @@ pub fn write_v2(connection: &[u8], area: &[u8], room: usize, numbers_len: usize)
     })
 }
 
+pub fn write_v2_checked(connection: &[u8], area: &[u8], room: usize, numbers_len: usize) -> Left {
+    lend(numbers_len, room, |numbers, out| unsafe {
+        dawnhawse_write_v2_checked(connection.as_ptr(), connection.len(), area.as_ptr(), area.len(), out, room, numbers, numbers_len)
+    })
+}
+
 pub fn store(connection: &[u8], room: usize, numbers_len: usize) -> Left {
     lend(numbers_len, room, |numbers, out| unsafe { dawnhawse_store(connection.as_ptr(), connection.len(), out, room, numbers, numbers_len) })
 }
 
 pub fn load(stored: &[u8], connection_len: usize) -> Left {
     lend(0, connection_len, |_, connection| unsafe { dawnhawse_load(stored.as_ptr(), stored.len(), connection, connection_len) })
+}
+
+/// The checksum's number is its answer.
+pub fn crc32c(bytes: &[u8]) -> Left {
+    lend(0, 0, |_, _| unsafe { dawnhawse_crc32c(bytes.as_ptr(), bytes.len()) })
 }

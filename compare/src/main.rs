@@ -4,7 +4,7 @@ mod programs;
 
 use compare::inputs::{self, Group};
 use compare::random::Random;
-use compare::{hex, interface, whole};
+use compare::{checked_reading, checked_writing, crc32c, hex, interface, whole};
 use std::path::{Path, PathBuf};
 
 const SEED: u64 = 0x0D0A_0D0A_000D_0A51;
@@ -30,7 +30,18 @@ fn main() {
         interface::stored(&mut random, GENERATED / 40),
         interface::loads(&mut random, GENERATED),
         interface::kind_codes(),
+        interface::states(),
         interface::buffers(),
+        crc32c::published(),
+        crc32c::short(),
+        crc32c::generated(&mut random, GENERATED),
+        checked_reading::listed(),
+        checked_reading::bits(),
+        checked_reading::long(&mut random),
+        checked_reading::generated(&mut random, GENERATED * 5),
+        checked_writing::refusals(),
+        checked_writing::longest(),
+        checked_writing::generated(&mut random, GENERATED / 20),
     ] {
         compared += outcome.compared;
         println!("compare: {} {}: {}", outcome.compared, outcome.name, outcome.difference.as_deref().unwrap_or("the same"));

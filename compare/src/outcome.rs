@@ -32,4 +32,11 @@ impl Outcome {
         let here = library::read(input, NUMBERS, CONNECTION);
         self.same(&here, &expected::reading(verdict, NUMBERS, CONNECTION), || format!("{} ({} bytes)", hex(input), input.len()));
     }
+
+    /// The same of the checked reading.
+    pub fn reads_checked(&mut self, input: &[u8], verdict: Verdict) {
+        let here = library::read_checked(input, NUMBERS, CONNECTION);
+        let checked = second::checked(input, verdict);
+        self.same(&here, &expected::checked_reading(checked, NUMBERS, CONNECTION), || format!("checked, {} ({} bytes)", hex(input), input.len()));
+    }
 }

@@ -1,10 +1,10 @@
 //! Records, TLV areas and stored forms at random.
-use crate::connection::{self, SIZE};
+use crate::connection::{self, SIZE, STATE};
 use crate::headers;
 use crate::random::Random;
 use second::{Kind, Record, Transport};
 
-/// A record of any kind whose unused bytes and ports are zero.
+/// A record of any kind whose unused bytes and ports are zero, without a checksum.
 pub fn clean(random: &mut Random) -> Record {
     let transport = [Transport::Stream, Transport::Datagram][random.below(2)];
     let kinds = [
@@ -29,21 +29,22 @@ pub fn clean(random: &mut Random) -> Record {
     record
 }
 
-/// A connection: of a clean record, or with one byte changed.
+/// A connection: of a clean record, now and then matched, or with one byte changed.
 pub fn any(random: &mut Random) -> [u8; SIZE] {
     let mut bytes = connection::bytes(&clean(random));
+    bytes[STATE] = u8::from(random.below(8) == 0);
     if random.below(5) == 0 {
         bytes[random.below(SIZE)] ^= 1 << random.below(8);
     }
     bytes
 }
 
-/// A TLV area, whole or damaged.
-pub fn area(random: &mut Random) -> Vec<u8> {
+/// A TLV area of these types, whole or damaged.
+pub fn area(types: &[u8], random: &mut Random) -> Vec<u8> {
     let mut area = Vec::new();
     for _ in 0..random.below(7) {
         let length = if random.below(5) == 0 { random.below(300) } else { random.below(4) };
-        area.extend(headers::tlv(random.below(4) as u8, length));
+        area.extend(headers::tlv(types[random.below(types.len())], length));
     }
     if random.below(3) == 0 && !area.is_empty() {
         let place = random.below(area.len());

@@ -2,7 +2,7 @@
 use crate::expected::MORE;
 use crate::outcome::Outcome;
 use crate::{hex, library, CONNECTION, NUMBERS};
-use second::Judge;
+use second::{Judge, Verdict};
 use std::collections::BTreeSet;
 
 /// What follows a header: a line's end, in case a reader looks for the last one.
@@ -17,13 +17,16 @@ pub fn among<'a>(inputs: impl Iterator<Item = &'a Vec<u8>>) -> BTreeSet<&'a [u8]
     inputs.filter_map(header).collect()
 }
 
-/// Every prefix of each header, and the header with payload behind it. What a header shares with the one before it is read once.
+/// Every prefix of each header, and the header with payload behind it, which is read checked too. What a header shares with the one before it is
+/// read once.
 pub fn prefixes(headers: &BTreeSet<&[u8]>) -> Outcome {
     let mut outcome = Outcome::new(&format!("prefixes of {} whole headers", headers.len()));
     let mut before = None;
     for header in headers {
         let known = before.map_or(0, |before| 1 + shared(header, before));
-        read_prefixes(&mut outcome, &[header, PAYLOAD].concat(), |end| known <= end);
+        let input = [header, PAYLOAD].concat();
+        let verdict = read_prefixes(&mut outcome, &input, |end| known <= end);
+        outcome.reads_checked(&input, verdict);
         before = Some(header);
     }
     outcome
@@ -34,17 +37,33 @@ fn shared(one: &[u8], other: &[u8]) -> usize {
     one.iter().zip(other).take_while(|(a, b)| a == b).count()
 }
 
-/// Reads the prefixes of the input whose length is chosen. The second program takes each byte once for all of them.
-pub fn read_prefixes(outcome: &mut Outcome, input: &[u8], chosen: impl Fn(usize) -> bool) {
+/// Reads the prefixes of the input whose length is chosen. The second program's verdict on all of it is given back.
+pub fn read_prefixes(outcome: &mut Outcome, input: &[u8], chosen: impl Fn(usize) -> bool) -> Verdict {
+    judge_prefixes(input, |prefix, judge| {
+        if chosen(prefix.len()) {
+            outcome.reads(prefix, judge.verdict());
+        }
+    })
+}
+
+/// Reads every prefix of the input plain and checked.
+pub fn read_prefixes_checked(outcome: &mut Outcome, input: &[u8]) {
+    judge_prefixes(input, |prefix, judge| {
+        outcome.reads(prefix, judge.verdict());
+        outcome.reads_checked(prefix, judge.verdict());
+    });
+}
+
+/// The second program takes each byte once for all prefixes. Its verdict on the last is given back.
+fn judge_prefixes(input: &[u8], mut compare: impl FnMut(&[u8], &Judge)) -> Verdict {
     let mut judge = Judge::new();
     for end in 0..=input.len() {
         if 0 < end {
             judge.push(input[end - 1]);
         }
-        if chosen(end) {
-            outcome.reads(&input[..end], judge.verdict());
-        }
+        compare(&input[..end], &judge);
     }
+    judge.verdict()
 }
 
 /// From nothing on, always as many further bytes as "more" tells, or half as many: once the library accepts, just the payload is left.

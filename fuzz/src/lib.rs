@@ -1,6 +1,6 @@
 //! A libFuzzer target: the C library and the second program on the same input. A difference ends the run.
 use compare::connection::SIZE;
-use compare::{expected, hex, library, same};
+use compare::{checksum_headers, expected, hex, library, same};
 
 /// # Safety
 /// As libFuzzer calls it: size bytes are lent behind data.
@@ -15,17 +15,17 @@ pub unsafe extern "C" fn LLVMFuzzerTestOneInput(data: *const u8, size: usize) ->
     0
 }
 
-/// The first byte chooses the function (its low three bits) and how many numbers are lent, the next two are a room, a place or a limit, and
+/// The first byte chooses the function (its low four bits) and how many numbers are lent, the next two are a room, a place or a limit, and
 /// the rest is the input.
 fn compare(input: &[u8]) -> Result<(), String> {
     let [choice, high, low, input @ ..] = input else { return Ok(()) };
-    let numbers = match choice >> 3 {
+    let numbers = match choice >> 4 {
         few @ 0..=3 => usize::from(few),
         _ => 6,
     };
     let number = usize::from(u16::from_be_bytes([*high, *low]));
     let (connection, area) = input.split_at(input.len().min(SIZE));
-    let (here, there) = match choice & 7 {
+    let (here, there) = match choice & 15 {
         0 => (library::read(input, numbers, SIZE + 3), expected::read(input, numbers, SIZE + 3)),
         1 => (library::next(input, number, numbers), expected::next(input, number, numbers)),
         2 => (library::step(input, number, numbers), expected::step(input, number, numbers)),
@@ -33,7 +33,15 @@ fn compare(input: &[u8]) -> Result<(), String> {
         4 => (library::write_v1(input, number, numbers), expected::write_v1(input, number, numbers)),
         5 => (library::write_v2(connection, area, number, numbers), expected::write_v2(connection, area, number, numbers)),
         6 => (library::store(input, number, numbers), expected::store(input, number, numbers)),
-        _ => (library::load(input, SIZE), expected::load(input, SIZE)),
+        7 => (library::load(input, SIZE), expected::load(input, SIZE)),
+        8 => (library::read_checked(input, numbers, SIZE + 3), expected::read_checked(input, numbers, SIZE + 3)),
+        9 => (library::write_v2_checked(connection, area, number, numbers), expected::write_v2_checked(connection, area, number, numbers)),
+        10 => (library::crc32c(input), expected::crc32c(input)),
+        // Right checksums would hardly be guessed.
+        _ => {
+            let input = &checksum_headers::righted(input);
+            (library::read_checked(input, numbers, SIZE + 3), expected::read_checked(input, numbers, SIZE + 3))
+        }
     };
-    same(&here, &there, || format!("function {}, {number}, {numbers} numbers, {}", choice & 7, hex(input)))
+    same(&here, &there, || format!("function {}, {number}, {numbers} numbers, {}", choice & 15, hex(input)))
 }

@@ -24,8 +24,3 @@ pub fn record_of_block(kind: Kind, block: &[u8]) -> Record {
     };
     Record::new(kind, source, destination, ports)
 }
-
-/// True if the record holds no more than its address block: the rest is zero.
-pub fn unused_is_zero(record: &Record) -> bool {
-    record_of_block(record.kind, &address_block(record)) == *record
-}

@@ -19,9 +19,15 @@
 //! The writers and the stored form build all bytes first and then write them,
 //! or refuse. TLVs are looked into by their list, which is found from the
 //! area's end.
+//!
+//! The checksum (document 02, K6) is the remainder of a division, bit by bit, of
+//! a copy of the header with zeros in place of the value.
 
 mod address_block;
 pub mod cases;
+mod checked;
+mod checksum;
+mod crc32c;
 mod field;
 mod fixed_bytes;
 mod grammar;
@@ -33,15 +39,18 @@ mod refusal;
 mod stored;
 mod tlv;
 mod tlv_area;
+mod unused;
 mod verdict;
 mod whole;
 mod write;
 
+pub use checked::{checked, judge_checked};
+pub use crc32c::crc32c;
 pub use judge::{judge, Judge};
 pub use lookup::{lookup, Answer, Lookup};
-pub use record::{Kind, Record, Transport};
+pub use record::{Checksum, Kind, Record, Transport};
 pub use stored::{load, store};
 pub use tlv_area::{next, step, tlv_list, Step};
 pub use verdict::{Header, Verdict};
 pub use whole::whole_header;
-pub use write::{write_v1, write_v2};
+pub use write::{write_v1, write_v2, write_v2_checked};

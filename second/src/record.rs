@@ -1,5 +1,5 @@
-//! The connection record (document 01, The record) and byte 13 of version 2
-//! that names its kind.
+//! The connection record (document 01, The record, and document 02, K6) and byte
+//! 13 of version 2 that names its kind.
 
 use std::fmt;
 
@@ -116,6 +116,14 @@ impl fmt::Display for Kind {
     }
 }
 
+/// What a checked reading found of the header's checksum. A plain one looks for
+/// none.
+#[derive(Clone, Copy, Debug, PartialEq, Eq)]
+pub enum Checksum {
+    Absent,
+    Matched,
+}
+
 /// Address bytes behind the kind's address length, and the ports of a kind
 /// that has none, are zero.
 #[derive(Clone, Debug, PartialEq, Eq)]
@@ -125,10 +133,11 @@ pub struct Record {
     pub destination: [u8; LONGEST_ADDRESS],
     pub source_port: u16,
     pub destination_port: u16,
+    pub checksum: Checksum,
 }
 
 impl Record {
-    /// A record whose addresses and ports are all zero.
+    /// A record whose addresses and ports are all zero, without a checksum.
     pub fn blank(kind: Kind) -> Record {
         Record {
             kind,
@@ -136,10 +145,12 @@ impl Record {
             destination: [0; LONGEST_ADDRESS],
             source_port: 0,
             destination_port: 0,
+            checksum: Checksum::Absent,
         }
     }
 
-    /// A record with these addresses, each at most 108 bytes, and these ports.
+    /// A record with these addresses, each at most 108 bytes, and these ports,
+    /// without a checksum.
     pub fn new(kind: Kind, source: &[u8], destination: &[u8], ports: [u16; 2]) -> Record {
         let mut record = Record::blank(kind);
         record.source[..source.len()].copy_from_slice(source);

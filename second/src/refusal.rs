@@ -1,11 +1,13 @@
 //! The numbers of the refusals that have no place (document 01, Numbered
-//! answers).
+//! answers, and document 02).
 
 /// The record has no form in the version asked for.
 pub const NO_FORM: u8 = 10;
-/// An unused address byte or port is not zero.
+/// An unused address byte or port is not zero, or a checksum is matched where
+/// none can be.
 pub const UNUSED_NOT_ZERO: u8 = 11;
-/// A TLV area is ill-formed, or non-empty beside local or unspecified.
+/// A TLV area is ill-formed, or non-empty beside local or unspecified, or a
+/// checksum cannot be added.
 pub const TLV_AREA: u8 = 12;
 /// Address block and TLVs exceed 65,535 bytes.
 pub const BLOCK_TOO_LONG: u8 = 13;
@@ -16,3 +18,6 @@ pub const STORED_MARK: u8 = 15;
 pub const STORED_VERSION: u8 = 16;
 pub const STORED_KIND_CODE: u8 = 17;
 pub const STORED_LENGTH: u8 = 18;
+
+/// A whole header's checksum is wrong.
+pub const WRONG_CHECKSUM: u8 = 23;

@@ -1,11 +1,12 @@
 //! The stored form of a record, version 1 (document 01, Stored form).
 
-use crate::address_block::{address_block, record_of_block, unused_is_zero};
+use crate::address_block::{address_block, record_of_block};
 use crate::output::write_whole;
 use crate::record::{Kind, Record};
 use crate::refusal::{
     STORED_KIND_CODE, STORED_LENGTH, STORED_MARK, STORED_VERSION, UNUSED_NOT_ZERO,
 };
+use crate::unused::only_its_block;
 
 const MARK: [u8; 3] = *b"CSR";
 const VERSION: [u8; 2] = [0x00, 0x01];
@@ -17,7 +18,7 @@ const UNSPECIFIED_CODE: u8 = 0x01;
 /// Writes the record's stored form and gives its length, or refuses with 11 or
 /// 14, the first that holds.
 pub fn store(record: &Record, out: &mut [u8]) -> Result<usize, u8> {
-    if !unused_is_zero(record) {
+    if !only_its_block(record) {
         return Err(UNUSED_NOT_ZERO);
     }
     let code = match record.kind {

@@ -1,15 +1,15 @@
 //! The version 1 writer (document 01, The text line).
 
-use crate::address_block::unused_is_zero;
 use crate::output::write_whole;
 use crate::record::{Kind, Record, Transport};
 use crate::refusal::{NO_FORM, UNUSED_NOT_ZERO};
+use crate::unused::only_its_block;
 
 /// Writes the record's text line and gives its length, or refuses with 10, 11
 /// or 14, the first that holds.
 pub fn write_v1(record: &Record, out: &mut [u8]) -> Result<usize, u8> {
     let line = line(record).ok_or(NO_FORM)?;
-    if !unused_is_zero(record) {
+    if !only_its_block(record) {
         return Err(UNUSED_NOT_ZERO);
     }
     write_whole(line.as_bytes(), out)

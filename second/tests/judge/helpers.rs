@@ -1,6 +1,6 @@
 //! Short ways to write inputs and expected answers.
 
-use second::{judge, Header, Kind, Record, Transport, Verdict};
+use second::{judge, Checksum, Header, Kind, Record, Transport, Verdict};
 use std::ops::Range;
 
 /// The signature of version 2.
@@ -92,6 +92,15 @@ pub fn record(
         destination: padded(destination),
         source_port,
         destination_port,
+        checksum: Checksum::Absent,
+    }
+}
+
+/// The record after a checked reading of a header with a right checksum.
+pub fn matched(record: &Record) -> Record {
+    Record {
+        checksum: Checksum::Matched,
+        ..record.clone()
     }
 }
 
@@ -172,6 +181,24 @@ pub fn area_of(tlvs: &[(u8, Vec<u8>)]) -> Vec<u8> {
     });
     bytes.collect::<Vec<_>>().concat()
 }
+
+/// A well-formed area of `length` bytes: one TLV, behind an empty one where its
+/// value would be longer than 65535 bytes.
+pub fn filled(length: usize) -> Vec<u8> {
+    let empty = if length > 65_538 { 3 } else { 0 };
+    let last = area_of(&[(2, vec![9; length - empty - 3])]);
+    [vec![0; empty], last].concat()
+}
+
+/// Bytes that TLVs do not fill.
+pub const ILL_FORMED: [&[u8]; 6] = [
+    &[4],
+    &[4, 0],
+    &[4, 0, 1],
+    &[4, 0, 0, 4],
+    &[4, 0, 2, 9],
+    &[4, 0, 0, 4, 1, 0],
+];
 
 /// The sixteen bytes of eight groups.
 pub fn groups(groups: [u16; 8]) -> Vec<u8> {

@@ -1,8 +1,12 @@
 //! What the judge answers, what is written and stored, and what is seen in
 //! TLVs. The expected answers are written by hand from documents 01 and 02;
-//! none is taken from a program.
+//! none is taken from a program under comparison.
 
 mod binary_block;
+mod checked_headers;
+mod checked_readings;
+mod checksums;
+mod crc32c;
 mod definition;
 mod fewest_bytes;
 mod helpers;

@@ -84,6 +84,14 @@ fn what_a_kind_does_not_use_must_be_zero() {
     }
 }
 
+/// Document 02, K6: "for now in the stored form, matched is 11", before 14.
+#[test]
+fn matched_is_refused() {
+    for (kind, ..) in KINDS {
+        check_refused(11, |out| store(&matched(&bare(kind)), out));
+    }
+}
+
 /// Before mark, version and code, which are wrong in some of these.
 #[test]
 fn under_6_bytes_the_length_is_refused() {

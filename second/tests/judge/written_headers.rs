@@ -82,16 +82,6 @@ fn the_area_stands_behind_the_address_block() {
     check_header(&bare(IP4_STREAM), &area, &header);
 }
 
-/// Bytes that TLVs do not fill.
-const ILL_FORMED: [&[u8]; 6] = [
-    &[4],
-    &[4, 0],
-    &[4, 0, 1],
-    &[4, 0, 0, 4],
-    &[4, 0, 2, 9],
-    &[4, 0, 0, 4, 1, 0],
-];
-
 /// Unused bytes come first, before 12 and 14.
 #[test]
 fn what_a_kind_does_not_use_must_be_zero() {
@@ -116,6 +106,30 @@ fn unused_bytes_are_refused_before_a_block_too_long() {
     }
 }
 
+/// Document 02, K6: "Without it [...] matched is 11", before 12, 13 and 14.
+#[test]
+fn matched_is_refused_without_the_request() {
+    for (kind, ..) in KINDS {
+        for area in [vec![], vec![4, 0, 0], vec![4], filled(65_536)] {
+            check_refused(11, |out| write_v2(&matched(&bare(kind)), &area, out));
+        }
+    }
+}
+
+/// Document 02, K6, speaks of the request only: 0x03 is a type as any other here.
+#[test]
+fn a_checksum_tlv_is_written_as_it_is_lent() {
+    for area in [
+        vec![3, 0, 4, 1, 2, 3, 4],
+        vec![3, 0, 0, 3, 0, 0],
+        vec![3, 0, 1, 9, 4, 0, 0],
+    ] {
+        let block = [vec![0; 12], area.clone()].concat();
+        let header = binary(0x21, 0x11, block.len(), &block);
+        check_header(&bare(IP4_STREAM), &area, &header);
+    }
+}
+
 #[test]
 fn an_area_must_be_filled_by_tlvs() {
     for (kind, ..) in KINDS {
@@ -132,14 +146,6 @@ fn local_and_unspecified_have_no_tlvs() {
             check_refused(12, |out| write_v2(&bare(kind), &area, out));
         }
     }
-}
-
-/// A well-formed area of `length` bytes: one TLV, behind an empty one where its
-/// value would be longer than 65535 bytes.
-fn filled(length: usize) -> Vec<u8> {
-    let empty = if length > 65_538 { 3 } else { 0 };
-    let last = area_of(&[(2, vec![9; length - empty - 3])]);
-    [vec![0; empty], last].concat()
 }
 
 /// The longest area is 65535 - A: 65523, 65499 and 65319 bytes.

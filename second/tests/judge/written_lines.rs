@@ -103,6 +103,18 @@ fn what_a_kind_does_not_use_must_be_zero() {
     }
 }
 
+/// Document 02, K6: "in version 1 [...] matched is 11": behind 10, before 14.
+#[test]
+fn matched_is_refused() {
+    for (kind, ..) in KINDS {
+        let number = match kind {
+            Kind::Unspecified | IP4_STREAM | IP6_STREAM => 11,
+            _ => 10,
+        };
+        check_refused(number, |out| write_v1(&matched(&bare(kind)), out));
+    }
+}
+
 #[test]
 fn random_records_are_read_back() {
     let mut random = Random::seeded(0x1111_2222_3333_4444);
