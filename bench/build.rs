@@ -4,7 +4,7 @@ use std::process::Command;
 fn main() {
     let here = env!("CARGO_MANIFEST_DIR");
     let out = std::env::var("OUT_DIR").expect("cargo sets it");
-    // Without -fno-builtin-memset gcc makes one string store of the 221 zeros, which costs more than the rest of a version 2 header.
+    // Without -fno-builtin-memset gcc makes one string store of the 222 zeros, which costs more than the rest of a version 2 header.
     let flags = ["-std=c99", "-O2", "-fno-builtin-memset", "-Wall", "-Wextra", "-Wpedantic", "-Werror", "-c"];
     done(Command::new("gcc").args(flags).arg(format!("{here}/parser.c")).arg("-o").arg(format!("{out}/parser.o")));
     done(Command::new("ar").arg("crs").arg(format!("{out}/libparser.a")).arg(format!("{out}/parser.o")));

@@ -8,15 +8,16 @@
 #include <stddef.h>
 #include <stdint.h>
 
-enum parser_answer { PARSER_ACCEPTED, PARSER_MORE, PARSER_REFUSED };
+enum parser_answer { PARSER_ACCEPTED, PARSER_MORE, PARSER_REFUSED, PARSER_WRONG_CHECKSUM };
 
-/* Who called: 1 + 108 + 108 + 2 + 2 = 221 bytes, the bytes of the library's connection. */
+/* Who called: 1 + 108 + 108 + 2 + 2 + 1 = 222 bytes, the bytes of the library's connection. */
 struct parser_connection {
     uint8_t kind; /* 0 local, 1 unspecified, else byte 13 of version 2 */
     uint8_t source[108];
     uint8_t destination[108];
     uint8_t source_port[2]; /* in network order, as sin_port */
     uint8_t destination_port[2];
+    uint8_t checksum; /* 0 absent, 1 matched */
 };
 
 struct parser_header {
@@ -32,5 +33,8 @@ struct parser_header {
  * Bytes are refused by the time a line or block is complete, not always at the first wrong byte.
  */
 enum parser_answer parser_read(const uint8_t *bytes, size_t n, struct parser_header *header);
+
+/* The same, and the checksum of a header that is accepted is compared. */
+enum parser_answer parser_read_checked(const uint8_t *bytes, size_t n, struct parser_header *header);
 
 #endif

@@ -17,15 +17,18 @@
  *   calls     Nothing but memcpy, memmove, memset and memcmp.
  *   target    x86-64 Linux, the System V calling convention, position-independent code, no instruction beyond SSE2.
  *
- *   function             stack   time grows with
- *   dawnhawse_read         512   version 1: at most 107 bytes; version 2: the TLVs among the bytes received, each looked at once
- *   dawnhawse_next          64   nothing: one TLV is looked at
- *   dawnhawse_step          64   the TLVs from the place to the end of the area, each looked at once
- *   dawnhawse_lookup        64   the TLVs of the area, each looked at once, and those examined once more
- *   dawnhawse_write_v1    3200   nothing: at most 104 bytes are written
- *   dawnhawse_write_v2     800   the TLVs of the area, each looked at once, and the bytes written
- *   dawnhawse_store        800   nothing: at most 222 bytes are written
- *   dawnhawse_load         800   nothing: at most 222 bytes are read
+ *   function                     stack   time grows with
+ *   dawnhawse_read                 512   version 1: at most 107 bytes; version 2: the TLVs among the bytes received, each once
+ *   dawnhawse_read_checked        2048   the same; a whole header of an address kind: its TLVs again, and its bytes, each once
+ *   dawnhawse_next                  64   nothing: one TLV is looked at
+ *   dawnhawse_step                  64   the TLVs from the place to the end of the area, each looked at once
+ *   dawnhawse_lookup                64   the TLVs of the area, each looked at once, and those examined once more
+ *   dawnhawse_write_v1            3200   nothing: at most 104 bytes are written
+ *   dawnhawse_write_v2             800   the TLVs of the area, each looked at once, and the bytes written
+ *   dawnhawse_write_v2_checked    2400   the same; the TLVs again, and the bytes written are looked at once
+ *   dawnhawse_store                800   nothing: at most 222 bytes are written
+ *   dawnhawse_load                 800   nothing: at most 222 bytes are read
+ *   dawnhawse_crc32c              1200   the bytes, each looked at once
  *
  * Stack is a bound in bytes, the return address among them; tests/stack.c measures each function on a painted stack.
  */
@@ -36,9 +39,9 @@
 #include <stdint.h>
 
 /* The release of the library; README says what each of its numbers counts. */
-#define DAWNHAWSE_RELEASE "0.3.0"
+#define DAWNHAWSE_RELEASE "0.4.0"
 #define DAWNHAWSE_RELEASE_MAJOR 0
-#define DAWNHAWSE_RELEASE_MINOR 3
+#define DAWNHAWSE_RELEASE_MINOR 4
 #define DAWNHAWSE_RELEASE_PATCH 0
 
 #ifdef __cplusplus
@@ -70,15 +73,16 @@ extern "C" {
 #define DAWNHAWSE_REFUSED_LENGTH 8  /* version 2: bytes 14 and 15, length */
 #define DAWNHAWSE_REFUSED_TLV 9     /* version 2: a TLV inside the header */
 
-/* Writers: the record has no form in the version; an address byte or port that the kind does not use is not zero. */
+/* Writers: the record has no form in the version; an address byte or port that the kind does not use is not zero, or the checksum
+   state is matched beside local or unspecified, or where no checksum is written. */
 #define DAWNHAWSE_NO_FORM 10
 #define DAWNHAWSE_UNUSED_NOT_ZERO 11
 
-/* TLVs do not fill the area or what remains of it, or the one TLV looked at does not end in it; version 2 writer: or an area
-   that is not empty beside local or unspecified. */
+/* TLVs do not fill the area or what remains of it, or the one TLV looked at does not end in it; version 2 writers: or an area
+   that is not empty beside local or unspecified, or a checksum asked for beside these or beside a 0x03 TLV. */
 #define DAWNHAWSE_ILL_FORMED 12
 
-/* Version 2 writer: address block and TLVs exceed 65535 bytes. */
+/* Version 2 writers: address block and TLVs exceed 65535 bytes. */
 #define DAWNHAWSE_TOO_LARGE 13
 
 /* A buffer that must be written is too short. */
@@ -88,9 +92,14 @@ extern "C" {
 #define DAWNHAWSE_WRONG_MARK 15
 #define DAWNHAWSE_WRONG_VERSION 16
 
-/* Load: the kind code is unknown; the length is not the one of the kind. Writers: the same of a connection and its 221 bytes. */
+/* Load: the kind code is unknown; the length is not the one of the kind. Writers: the kind code or the checksum state of a
+   connection is unknown; it has not 222 bytes. */
 #define DAWNHAWSE_UNKNOWN_KIND 17
 #define DAWNHAWSE_WRONG_SIZE 18
+
+/* Checked reading: a whole header of an address kind whose checksum is wrong, or whose 0x03 TLV has a value that is not 4 bytes, or
+   that has several 0x03 TLVs. */
+#define DAWNHAWSE_WRONG_CHECKSUM 23
 
 /* dawnhawse_next, dawnhawse_step: the walk is at the end of the area. */
 #define DAWNHAWSE_END 252
@@ -106,7 +115,7 @@ extern "C" {
 
 #define DAWNHAWSE_NUMBERS 4
 
-/* dawnhawse_read */
+/* dawnhawse_read and dawnhawse_read_checked */
 #define DAWNHAWSE_LENGTH 0         /* accepted: the header's length, 15 to 65551; the payload starts there */
 #define DAWNHAWSE_LEAST 0          /* more: the fewest further bytes that could make a whole header, 1 to 65535 */
 #define DAWNHAWSE_PLACE 0          /* refused: the place of the first byte that rules a header out, counted from 0 */
@@ -121,7 +130,7 @@ extern "C" {
 #define DAWNHAWSE_VALUE_START 2  /* where the value starts in the area */
 #define DAWNHAWSE_VALUE_LENGTH 3 /* the value's length */
 
-/* dawnhawse_write_v1, dawnhawse_write_v2 and dawnhawse_store */
+/* dawnhawse_write_v1, dawnhawse_write_v2, dawnhawse_write_v2_checked and dawnhawse_store */
 #define DAWNHAWSE_WRITTEN_LENGTH 0 /* how many bytes were written; the other three numbers are 0 */
 
 /* ---- Outputs: so many bytes are room enough ---- */
@@ -132,7 +141,7 @@ extern "C" {
 
 /* ---- A connection: uint8_t connection[DAWNHAWSE_CONNECTION] ---- */
 
-#define DAWNHAWSE_CONNECTION 221 /* 1 + 108 + 108 + 2 + 2 */
+#define DAWNHAWSE_CONNECTION 222 /* 1 + 108 + 108 + 2 + 2 + 1 */
 
 /* An address stands at the front of its 108 bytes, in network order; the bytes that the kind does not use are zero. */
 #define DAWNHAWSE_KIND 0               /* 1 byte: a kind code */
@@ -140,6 +149,7 @@ extern "C" {
 #define DAWNHAWSE_DESTINATION 109      /* 108 bytes, the same */
 #define DAWNHAWSE_SOURCE_PORT 217      /* 2 bytes, high byte first; zero for UNIX, local and unspecified */
 #define DAWNHAWSE_DESTINATION_PORT 219 /* 2 bytes, the same */
+#define DAWNHAWSE_CHECKSUM 221         /* 1 byte: a checksum state */
 
 /* Kind codes */
 #define DAWNHAWSE_LOCAL 0x00       /* the proxy's own connection: keep the real addresses */
@@ -151,11 +161,15 @@ extern "C" {
 #define DAWNHAWSE_UNIX_STREAM 0x31
 #define DAWNHAWSE_UNIX_DATAGRAM 0x32
 
+/* Checksum states. Of the writers only dawnhawse_write_v2_checked takes matched; for the others set it to absent. */
+#define DAWNHAWSE_CHECKSUM_ABSENT 0  /* no checksum was compared: the header has none, or the reading is not a checked one */
+#define DAWNHAWSE_CHECKSUM_MATCHED 1 /* the header has one checksum, and it is right */
+
 /* ---- Functions ---- */
 
 /*
  * What the bytes received so far are. Call it again with all bytes from the first on when more have come: no answer but
- * DAWNHAWSE_MORE changes when further bytes follow.
+ * DAWNHAWSE_MORE changes when further bytes follow. A checksum is a TLV as any other, and not compared.
  *
  * DAWNHAWSE_MORE tells n, the smallest number of further bytes with which some continuation is a whole header: at least 1 and at
  * most 65535. A caller who reads exactly n bytes each time, or fewer, never reads past the header. n may grow from one call to the
@@ -172,16 +186,39 @@ extern "C" {
  *   connection, connection_len   at least DAWNHAWSE_CONNECTION bytes
  *
  * Answers, the first that applies
- *   DAWNHAWSE_NO_ROOM    numbers has fewer than 4 elements or connection fewer than 221 bytes; both are as they were.
+ *   DAWNHAWSE_NO_ROOM    numbers has fewer than 4 elements or connection fewer than 222 bytes; both are as they were.
  *   DAWNHAWSE_ACCEPTED   numbers: length, version, the TLV area's start and length. The area is the header's last bytes, so
- *                        start is length where it is empty. connection: who called.
+ *                        start is length where it is empty. connection: who called, with DAWNHAWSE_CHECKSUM_ABSENT.
  *   DAWNHAWSE_MORE       numbers: n, 0, 0, 0. connection: unspecified, all else zero.
  *   1 to 9               DAWNHAWSE_REFUSED_..; numbers: place, 0, 0, 0. connection: unspecified, all else zero.
  *
- * Elements past the fourth and bytes past the 221st stay as they were.
+ * Elements past the fourth and bytes past the 222nd stay as they were.
  */
 uint32_t dawnhawse_read(const uint8_t *bytes, size_t bytes_len, uint64_t *numbers, size_t numbers_len,
                         uint8_t *connection, size_t connection_len);
+
+/*
+ * The same, but the checksum of a header is compared: the TLV of type 0x03, whose value is the CRC32C of the whole header with
+ * these four bytes taken as zero, in network order. A version 1 line has none, and neither have local and unspecified: nothing of
+ * their bytes is compared, and their state is absent.
+ *
+ * A header without a checksum is accepted, with DAWNHAWSE_CHECKSUM_ABSENT: a caller who insists on one also asks for
+ * connection[DAWNHAWSE_CHECKSUM] == DAWNHAWSE_CHECKSUM_MATCHED (examples/checked.c).
+ *
+ * A checksum guards against damage on the way. It is no proof of who wrote the header, since anybody can compute it: let nothing
+ * that a wrong caller must not do, as to reflash a unit, rest on it.
+ *
+ * Parameters are those of dawnhawse_read, and again no answer but DAWNHAWSE_MORE changes when further bytes follow. Answers, the
+ * first that applies
+ *   DAWNHAWSE_NO_ROOM          as dawnhawse_read; both buffers are as they were
+ *   DAWNHAWSE_WRONG_CHECKSUM   the bytes begin with a whole header of version 2, IPv4, IPv6 or UNIX, in which the checksum is wrong,
+ *                              or the value of a 0x03 TLV is not 4 bytes, or there are several 0x03 TLVs. numbers: 0, 0, 0, 0.
+ *                              connection: unspecified, all else zero.
+ *   DAWNHAWSE_ACCEPTED         as dawnhawse_read, with DAWNHAWSE_CHECKSUM_MATCHED where such a header has a 0x03 TLV
+ *   any other                  as dawnhawse_read
+ */
+uint32_t dawnhawse_read_checked(const uint8_t *bytes, size_t bytes_len, uint64_t *numbers, size_t numbers_len,
+                                uint8_t *connection, size_t connection_len);
 
 /*
  * One step of a walk over the TLV area of an accepted header. Start at place 0, and go on at numbers[DAWNHAWSE_NEXT]. It looks at
@@ -240,10 +277,10 @@ uint32_t dawnhawse_lookup(const uint8_t *area, size_t area_len, uint8_t wanted, 
  *   numbers, numbers_len         at least DAWNHAWSE_NUMBERS elements
  *
  * Answers, the first that applies; a refusal leaves both buffers as they were
- *   DAWNHAWSE_WRONG_SIZE        connection has not 221 bytes
- *   DAWNHAWSE_UNKNOWN_KIND      its kind code is unknown
+ *   DAWNHAWSE_WRONG_SIZE        connection has not 222 bytes
+ *   DAWNHAWSE_UNKNOWN_KIND      its kind code or its checksum state is unknown
  *   DAWNHAWSE_NO_FORM           version 1 does not carry the kind
- *   DAWNHAWSE_UNUSED_NOT_ZERO   an unused byte or port is not zero
+ *   DAWNHAWSE_UNUSED_NOT_ZERO   an unused byte or port is not zero, or its checksum state is matched
  *   DAWNHAWSE_NO_ROOM           the output is shorter than the line, or numbers has fewer than 4 elements
  *   DAWNHAWSE_WRITTEN           the line is written; numbers: its length, 0, 0, 0
  */
@@ -251,7 +288,8 @@ uint32_t dawnhawse_write_v1(const uint8_t *connection, size_t connection_len, ui
                             uint64_t *numbers, size_t numbers_len);
 
 /*
- * Writes the version 2 header of a connection, with its TLVs, to the front of the output. Version 2 carries every kind.
+ * Writes the version 2 header of a connection, with its TLVs, to the front of the output. Version 2 carries every kind. No checksum
+ * is made: a 0x03 TLV of the area is written as it stands.
  *
  *   connection, connection_len   exactly DAWNHAWSE_CONNECTION bytes; not altered
  *   area, area_len               the TLV area, as it stands in a header; it may be empty; not altered
@@ -259,9 +297,9 @@ uint32_t dawnhawse_write_v1(const uint8_t *connection, size_t connection_len, ui
  *   numbers, numbers_len         at least DAWNHAWSE_NUMBERS elements
  *
  * Answers, the first that applies; a refusal leaves both buffers as they were
- *   DAWNHAWSE_WRONG_SIZE        connection has not 221 bytes
- *   DAWNHAWSE_UNKNOWN_KIND      its kind code is unknown
- *   DAWNHAWSE_UNUSED_NOT_ZERO   an unused byte or port is not zero
+ *   DAWNHAWSE_WRONG_SIZE        connection has not 222 bytes
+ *   DAWNHAWSE_UNKNOWN_KIND      its kind code or its checksum state is unknown
+ *   DAWNHAWSE_UNUSED_NOT_ZERO   an unused byte or port is not zero, or its checksum state is matched
  *   DAWNHAWSE_ILL_FORMED        TLVs do not fill the area, or it is not empty beside local or unspecified
  *   DAWNHAWSE_TOO_LARGE         address block and area have more than 65535 bytes
  *   DAWNHAWSE_NO_ROOM           the output is shorter than the header, or numbers has fewer than 4 elements
@@ -271,6 +309,24 @@ uint32_t dawnhawse_write_v2(const uint8_t *connection, size_t connection_len, co
                             uint8_t *out, size_t out_len, uint64_t *numbers, size_t numbers_len);
 
 /*
+ * The same with a checksum: behind the area stand seven bytes more, 03 00 04 and the CRC32C of the header with its four bytes
+ * taken as zero. dawnhawse_read_checked accepts what is written, with DAWNHAWSE_CHECKSUM_MATCHED and an area that has the seven bytes
+ * at its end.
+ *
+ * Parameters are those of dawnhawse_write_v2; the connection may say absent or matched. Answers, the first that applies; a refusal
+ * leaves both buffers as they were
+ *   DAWNHAWSE_WRONG_SIZE        connection has not 222 bytes
+ *   DAWNHAWSE_UNKNOWN_KIND      its kind code or its checksum state is unknown
+ *   DAWNHAWSE_UNUSED_NOT_ZERO   an unused byte or port is not zero, or its state is matched beside local or unspecified
+ *   DAWNHAWSE_ILL_FORMED        TLVs do not fill the area, or one of them is of type 0x03, or the kind is local or unspecified
+ *   DAWNHAWSE_TOO_LARGE         address block, area and the seven bytes are more than 65535 bytes
+ *   DAWNHAWSE_NO_ROOM           the output is shorter than the header with them, or numbers has fewer than 4 elements
+ *   DAWNHAWSE_WRITTEN           the header is written; numbers: its length, 0, 0, 0
+ */
+uint32_t dawnhawse_write_v2_checked(const uint8_t *connection, size_t connection_len, const uint8_t *area, size_t area_len,
+                                    uint8_t *out, size_t out_len, uint64_t *numbers, size_t numbers_len);
+
+/*
  * Writes the stored form of a connection to the front of the output: one connection, one byte string.
  *
  *   connection, connection_len   exactly DAWNHAWSE_CONNECTION bytes; not altered
@@ -278,9 +334,9 @@ uint32_t dawnhawse_write_v2(const uint8_t *connection, size_t connection_len, co
  *   numbers, numbers_len         at least DAWNHAWSE_NUMBERS elements
  *
  * Answers, the first that applies; a refusal leaves both buffers as they were
- *   DAWNHAWSE_WRONG_SIZE        connection has not 221 bytes
- *   DAWNHAWSE_UNKNOWN_KIND      its kind code is unknown
- *   DAWNHAWSE_UNUSED_NOT_ZERO   an unused byte or port is not zero
+ *   DAWNHAWSE_WRONG_SIZE        connection has not 222 bytes
+ *   DAWNHAWSE_UNKNOWN_KIND      its kind code or its checksum state is unknown
+ *   DAWNHAWSE_UNUSED_NOT_ZERO   an unused byte or port is not zero, or its checksum state is matched
  *   DAWNHAWSE_NO_ROOM           the output is shorter than the form, or numbers has fewer than 4 elements
  *   DAWNHAWSE_WRITTEN           the form is written; numbers: its length, 6, 18, 42 or 222, then 0, 0, 0
  */
@@ -291,18 +347,26 @@ uint32_t dawnhawse_store(const uint8_t *connection, size_t connection_len, uint8
  * The connection of a stored form.
  *
  *   stored, stored_len           the form, and no byte more; not altered
- *   connection, connection_len   at least DAWNHAWSE_CONNECTION bytes; bytes past the 221st stay as they were
+ *   connection, connection_len   at least DAWNHAWSE_CONNECTION bytes; bytes past the 222nd stay as they were
  *
  * Answers, the first that applies
- *   DAWNHAWSE_NO_ROOM         connection has fewer than 221 bytes; it is as it was
+ *   DAWNHAWSE_NO_ROOM         connection has fewer than 222 bytes; it is as it was
  *   DAWNHAWSE_WRONG_SIZE      the form has fewer than 6 bytes; connection: unspecified, all else zero
  *   DAWNHAWSE_WRONG_MARK      it does not begin with 43 53 52; connection: the same
  *   DAWNHAWSE_WRONG_VERSION   00 01 does not follow; connection: the same
  *   DAWNHAWSE_UNKNOWN_KIND    its kind code is unknown; connection: the same
  *   DAWNHAWSE_WRONG_SIZE      its length is not the one of its kind; connection: the same
- *   DAWNHAWSE_LOADED          connection: what was stored
+ *   DAWNHAWSE_LOADED          connection: what was stored, with DAWNHAWSE_CHECKSUM_ABSENT
  */
 uint32_t dawnhawse_load(const uint8_t *stored, size_t stored_len, uint8_t *connection, size_t connection_len);
+
+/*
+ * The CRC32C of the bytes, as RFC 4960 appendix B defines it: "123456789" gives 0xe3069283, no bytes give 0. It is no answer but
+ * the number itself; a header stores it high byte first, e3 06 92 83.
+ *
+ *   bytes, bytes_len   the bytes; not altered
+ */
+uint32_t dawnhawse_crc32c(const uint8_t *bytes, size_t bytes_len);
 
 /* A short name of an answer, for logs; it is never NULL. */
 static inline const char *dawnhawse_answer_name(uint32_t answer)
@@ -327,6 +391,7 @@ static inline const char *dawnhawse_answer_name(uint32_t answer)
     case DAWNHAWSE_WRONG_VERSION: return "wrong-version";
     case DAWNHAWSE_UNKNOWN_KIND: return "unknown-kind";
     case DAWNHAWSE_WRONG_SIZE: return "wrong-size";
+    case DAWNHAWSE_WRONG_CHECKSUM: return "wrong-checksum";
     case DAWNHAWSE_END: return "end";
     case DAWNHAWSE_ABSENT: return "absent";
     case DAWNHAWSE_GAVE_UP: return "gave-up";

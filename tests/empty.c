@@ -62,6 +62,10 @@ int main(void)
     HOLD(dawnhawse_read(bytes, length, NOTHING, BYTES), DAWNHAWSE_NO_ROOM);
     HOLD(dawnhawse_read(bytes, length, NUMBERS, NOTHING), DAWNHAWSE_NO_ROOM);
     HOLD(dawnhawse_read(NOTHING, NOTHING, NOTHING), DAWNHAWSE_NO_ROOM);
+    HOLD(dawnhawse_read_checked(NOTHING, NUMBERS, BYTES), DAWNHAWSE_MORE);
+    HOLD(dawnhawse_read_checked(bytes, length, NOTHING, BYTES), DAWNHAWSE_NO_ROOM);
+    HOLD(dawnhawse_read_checked(bytes, length, NUMBERS, NOTHING), DAWNHAWSE_NO_ROOM);
+    HOLD(dawnhawse_read_checked(NOTHING, NOTHING, NOTHING), DAWNHAWSE_NO_ROOM);
     HOLD(dawnhawse_next(NOTHING, 0, NUMBERS), DAWNHAWSE_END);
     HOLD(dawnhawse_next(NOTHING, 1, NUMBERS), DAWNHAWSE_ILL_FORMED);
     HOLD(dawnhawse_next(area, sizeof area, 0, NOTHING), DAWNHAWSE_NO_ROOM);
@@ -84,6 +88,12 @@ int main(void)
     HOLD(dawnhawse_write_v2(CALLER, area, sizeof area, BYTES, NOTHING), DAWNHAWSE_NO_ROOM);
     HOLD(dawnhawse_write_v2(CALLER, NOTHING, NOTHING, NOTHING), DAWNHAWSE_NO_ROOM);
     HOLD(dawnhawse_write_v2(NOTHING, NOTHING, NOTHING, NOTHING), DAWNHAWSE_WRONG_SIZE);
+    HOLD(dawnhawse_write_v2_checked(NOTHING, area, sizeof area, BYTES, NUMBERS), DAWNHAWSE_WRONG_SIZE);
+    HOLD(dawnhawse_write_v2_checked(CALLER, NOTHING, BYTES, NUMBERS), DAWNHAWSE_WRITTEN);
+    HOLD(dawnhawse_write_v2_checked(CALLER, area, sizeof area, NOTHING, NUMBERS), DAWNHAWSE_NO_ROOM);
+    HOLD(dawnhawse_write_v2_checked(CALLER, area, sizeof area, BYTES, NOTHING), DAWNHAWSE_NO_ROOM);
+    HOLD(dawnhawse_write_v2_checked(CALLER, NOTHING, NOTHING, NOTHING), DAWNHAWSE_NO_ROOM);
+    HOLD(dawnhawse_write_v2_checked(NOTHING, NOTHING, NOTHING, NOTHING), DAWNHAWSE_WRONG_SIZE);
     HOLD(dawnhawse_store(NOTHING, BYTES, NUMBERS), DAWNHAWSE_WRONG_SIZE);
     HOLD(dawnhawse_store(CALLER, NOTHING, NUMBERS), DAWNHAWSE_NO_ROOM);
     HOLD(dawnhawse_store(CALLER, BYTES, NOTHING), DAWNHAWSE_NO_ROOM);
@@ -91,6 +101,7 @@ int main(void)
     HOLD(dawnhawse_load(NOTHING, BYTES), DAWNHAWSE_WRONG_SIZE);
     HOLD(dawnhawse_load(stored, sizeof stored, NOTHING), DAWNHAWSE_NO_ROOM);
     HOLD(dawnhawse_load(NOTHING, NOTHING), DAWNHAWSE_NO_ROOM);
+    HOLD(dawnhawse_crc32c(NOTHING), 0);
     if (untouched != 7)
         failed++;
     printf("%d passed, %d failed\n", passed, failed);

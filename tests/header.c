@@ -1,4 +1,7 @@
-/* What the C header itself says, as C99 and as C++: each answer has a name of its own, and the release is its three numbers. */
+/*
+ * What the C header itself says, as C99 and as C++: each answer has a name of its own, the fields of a connection fill it, and the
+ * release is its three numbers.
+ */
 #include <dawnhawse.h>
 #include <stdio.h>
 #include <string.h>
@@ -17,7 +20,8 @@ static void check(int holds, const char *what)
 
 static int is_answer(uint32_t number)
 {
-    return number <= DAWNHAWSE_WRONG_SIZE || (number >= DAWNHAWSE_END && number <= DAWNHAWSE_MORE);
+    return number <= DAWNHAWSE_WRONG_SIZE || number == DAWNHAWSE_WRONG_CHECKSUM
+        || (number >= DAWNHAWSE_END && number <= DAWNHAWSE_MORE);
 }
 
 int main(void)
@@ -38,6 +42,10 @@ int main(void)
         else if (strcmp(name, other) != 0)
             check(0, "every number that is no answer has one name");
     }
+    check(DAWNHAWSE_KIND + 1 == DAWNHAWSE_SOURCE && DAWNHAWSE_SOURCE + 108 == DAWNHAWSE_DESTINATION
+              && DAWNHAWSE_DESTINATION + 108 == DAWNHAWSE_SOURCE_PORT && DAWNHAWSE_SOURCE_PORT + 2 == DAWNHAWSE_DESTINATION_PORT
+              && DAWNHAWSE_DESTINATION_PORT + 2 == DAWNHAWSE_CHECKSUM && DAWNHAWSE_CHECKSUM + 1 == DAWNHAWSE_CONNECTION,
+          "the fields of a connection fill it");
     snprintf(text, sizeof text, "%d.%d.%d", DAWNHAWSE_RELEASE_MAJOR, DAWNHAWSE_RELEASE_MINOR, DAWNHAWSE_RELEASE_PATCH);
     check(strcmp(text, DAWNHAWSE_RELEASE) == 0, "the release is its three numbers");
     printf("%d passed, %d failed\n", passed, failed);

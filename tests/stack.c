@@ -16,13 +16,16 @@ static size_t length, at, room;
 #define CONNECTION connection, sizeof connection
 static void nothing(void) {}
 static void do_read(void) { dawnhawse_read(bytes, length, NUMBERS, CONNECTION); }
+static void do_read_checked(void) { dawnhawse_read_checked(bytes, length, NUMBERS, CONNECTION); }
 static void do_next(void) { dawnhawse_next(bytes, length, at, NUMBERS); }
 static void do_step(void) { dawnhawse_step(bytes, length, at, NUMBERS); }
 static void do_lookup(void) { dawnhawse_lookup(bytes, length, 0xee, at, NUMBERS); }
 static void do_write_v1(void) { dawnhawse_write_v1(CONNECTION, out, room, NUMBERS); }
 static void do_write_v2(void) { dawnhawse_write_v2(CONNECTION, bytes, length, out, room, NUMBERS); }
+static void do_write_v2_checked(void) { dawnhawse_write_v2_checked(CONNECTION, bytes, length, out, room, NUMBERS); }
 static void do_store(void) { dawnhawse_store(CONNECTION, out, room, NUMBERS); }
 static void do_load(void) { dawnhawse_load(bytes, length, CONNECTION); }
+static void do_crc32c(void) { dawnhawse_crc32c(bytes, length); }
 
 /* How far down a call writes, in whole words. */
 static size_t depth(void (*call)(void))
@@ -50,13 +53,16 @@ static struct most {
     size_t use;
 } most[] = {
     {do_read, "dawnhawse_read", 0},
+    {do_read_checked, "dawnhawse_read_checked", 0},
     {do_next, "dawnhawse_next", 0},
     {do_step, "dawnhawse_step", 0},
     {do_lookup, "dawnhawse_lookup", 0},
     {do_write_v1, "dawnhawse_write_v1", 0},
     {do_write_v2, "dawnhawse_write_v2", 0},
+    {do_write_v2_checked, "dawnhawse_write_v2_checked", 0},
     {do_store, "dawnhawse_store", 0},
     {do_load, "dawnhawse_load", 0},
+    {do_crc32c, "dawnhawse_crc32c", 0},
 };
 
 static void measure(void (*call)(void))
@@ -123,6 +129,8 @@ int main(void)
     for (size_t i = 0; i < sizeof lines / sizeof *lines; i++) {
         memcpy(bytes, lines[i], strlen(lines[i]));
         beginnings(do_read, strlen(lines[i]));
+        beginnings(do_read_checked, strlen(lines[i]));
+        beginnings(do_crc32c, strlen(lines[i]));
     }
     for (const struct kind *kind = kinds; kind < kinds + sizeof kinds / sizeof *kinds; kind++) {
         for (int byte = 0; byte < 256; byte++) {
@@ -130,11 +138,18 @@ int main(void)
             for (room = 0; room <= sizeof out; room += sizeof out / 8) {
                 measure(do_write_v1);
                 measure(do_write_v2);
+                measure(do_write_v2_checked);
                 measure(do_store);
             }
         }
         prepare(kind, 7);
         read_back(do_write_v2, do_read);
+        prepare(kind, 7);
+        read_back(do_write_v2, do_read_checked);
+        if (kind->address) {
+            prepare(kind, 7);
+            read_back(do_write_v2_checked, do_read_checked);
+        }
         prepare(kind, 7);
         read_back(do_store, do_load);
     }

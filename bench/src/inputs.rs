@@ -6,6 +6,8 @@ pub struct Input {
     pub bytes: Vec<u8>,
     /// The bytes are judged after this many of them and after each further one; all of that counts as one header.
     pub first: usize,
+    /// The reading is a checked one: the header's checksum is compared.
+    pub checked: bool,
     pub target: Option<f64>,
 }
 
@@ -26,13 +28,20 @@ pub fn inputs() -> Vec<Input> {
         whole("v2-ip4", "version 2, IPv4", block(0x11, &[&[192, 168, 0, 1], &[192, 168, 0, 11], &PORTS]), 2.5),
         whole("v2-ip6-tlvs", "version 2, IPv6, three TLVs", block(0x21, &[&address6(0x34), &address6(0x35), &PORTS, &tlvs()]), 2.5),
         whole("v2-unix", "version 2, UNIX", block(0x31, &[&path("/run/screen/tester.sock"), &path("/run/screen/services.sock")]), 2.5),
-        Input { name: "scraps", what: "longest TCP6, byte by byte", bytes: LONGEST_TCP6.to_vec(), first: 1, target: None },
+        Input { name: "scraps", what: "longest TCP6, byte by byte", bytes: LONGEST_TCP6.to_vec(), first: 1, checked: false, target: None },
+        checked("v2-checked", "version 2, checked", with_checksum(200)),
+        checked("v2-longest-checked", "version 2, longest, checked", with_checksum(65551)),
     ]
 }
 
 fn whole(name: &'static str, what: &'static str, bytes: Vec<u8>, target: f64) -> Input {
     let first = bytes.len();
-    Input { name, what, bytes, first, target: Some(target) }
+    Input { name, what, bytes, first, checked: false, target: Some(target) }
+}
+
+fn checked(name: &'static str, what: &'static str, bytes: Vec<u8>) -> Input {
+    let first = bytes.len();
+    Input { name, what, bytes, first, checked: true, target: None }
 }
 
 /// 56324 and 443.
@@ -59,4 +68,16 @@ fn path(name: &str) -> [u8; 108] {
 fn tlvs() -> Vec<u8> {
     let tlv = |kind: u8, value: &[u8]| [&[kind, 0, value.len() as u8], value].concat();
     [tlv(0x01, b"h2"), tlv(0x02, b"screen.example.com"), tlv(0x05, b"0123456789abcdef")].concat()
+}
+
+/// A version 2 header of this many bytes with a checksum: IPv6, the TLVs above, NOOP to fill it, and CRC32C.
+fn with_checksum(size: usize) -> Vec<u8> {
+    let tlvs = tlvs();
+    let (head, addresses, noop, checksum) = (16, 36, 3, 7);
+    let filled = u16::try_from(size - head - addresses - tlvs.len() - noop - checksum).expect("at most 65535");
+    let noop = [&[0x04][..], &filled.to_be_bytes(), &vec![0; filled.into()]].concat();
+    let mut bytes = block(0x21, &[&address6(0x34), &address6(0x35), &PORTS, &tlvs, &noop, &[0x03, 0, 4, 0, 0, 0, 0]]);
+    let sum = second::crc32c(&bytes).to_be_bytes();
+    bytes[size - sum.len()..].copy_from_slice(&sum);
+    bytes
 }

@@ -54,16 +54,26 @@ fn tables(inputs: &[Input]) {
     }
 }
 
-/// All three give the same answer on all that is timed: accepted for the whole header, and more before.
+/// All three give the same answer on all that is timed: accepted for the whole header, and more before. With a wrong checksum none
+/// accepts.
 fn check(input: &Input) {
     for bytes in input.readings() {
-        let [library, c, second] = Program::ALL.map(|program| program.answer(bytes));
-        let expected = if bytes.len() == input.bytes.len() { matches!(library, Answer::Accepted(_)) } else { library == Answer::More };
-        if !expected || library != c || library != second {
-            let hex: String = bytes.iter().map(|b| format!("{b:02x}")).collect();
-            eprintln!("bench: {}: input {hex} ({} bytes): the library says {library:?}, the C parser {c:?}, the second program {second:?}", input.what, bytes.len());
-            std::process::exit(1);
-        }
+        let whole = bytes.len() == input.bytes.len();
+        agree(input, bytes, |answer| if whole { matches!(answer, Answer::Accepted(_)) } else { *answer == Answer::More });
+    }
+    if input.checked {
+        let mut wrong = input.bytes.clone();
+        *wrong.last_mut().expect("a header") ^= 1;
+        agree(input, &wrong, |answer| *answer == Answer::Refused);
+    }
+}
+
+fn agree(input: &Input, bytes: &[u8], expected: impl Fn(&Answer) -> bool) {
+    let [library, c, second] = Program::ALL.map(|program| program.answer(bytes, input.checked));
+    if !expected(&library) || library != c || library != second {
+        let hex: String = bytes.iter().map(|b| format!("{b:02x}")).collect();
+        eprintln!("bench: {}: input {hex} ({} bytes): the library says {library:?}, the C parser {c:?}, the second program {second:?}", input.what, bytes.len());
+        std::process::exit(1);
     }
 }
 

@@ -7,8 +7,10 @@ use std::hint::black_box;
 extern "C" {
     /// include/dawnhawse.h
     fn dawnhawse_read(bytes: *const u8, bytes_len: usize, numbers: *mut u64, numbers_len: usize, connection: *mut u8, connection_len: usize) -> u32;
+    fn dawnhawse_read_checked(bytes: *const u8, bytes_len: usize, numbers: *mut u64, numbers_len: usize, connection: *mut u8, connection_len: usize) -> u32;
     /// parser.h
     fn parser_read(bytes: *const u8, n: usize, header: *mut Reading) -> u32;
+    fn parser_read_checked(bytes: *const u8, n: usize, header: *mut Reading) -> u32;
 }
 
 /// What a program tells of an accepted header: length, version, the TLV area's start and length, and the connection. The C parser's
@@ -25,6 +27,7 @@ pub enum Answer {
     Accepted(Box<Reading>),
     /// Without how few bytes are missing, which the library and the second program tell and the C parser does not.
     More,
+    /// Also where only the checksum is wrong.
     Refused,
 }
 
@@ -46,13 +49,16 @@ impl Program {
         }
     }
 
-    /// What the program says of the bytes.
-    pub fn answer(self, bytes: &[u8]) -> Answer {
+    /// What the program says of the bytes, in a checked reading or a plain one.
+    pub fn answer(self, bytes: &[u8], checked: bool) -> Answer {
         let mut reading = Reading::new();
-        let number = match self {
-            Program::Library => library(bytes, &mut reading),
-            Program::C => c_parser(bytes, &mut reading),
-            Program::Second => return second_answer(&second::judge(bytes)),
+        let number = match (self, checked) {
+            (Program::Library, false) => library(bytes, &mut reading),
+            (Program::Library, true) => library_checked(bytes, &mut reading),
+            (Program::C, false) => c_parser(bytes, &mut reading),
+            (Program::C, true) => c_parser_checked(bytes, &mut reading),
+            (Program::Second, false) => return second_answer(&second::judge(bytes)),
+            (Program::Second, true) => return second::judge_checked(bytes).map_or(Answer::Refused, |verdict| second_answer(&verdict)),
         };
         match (self, number) {
             (_, 0) => Answer::Accepted(Box::new(reading)),
@@ -64,10 +70,13 @@ impl Program {
     /// Reads the input's header so many times.
     pub fn read(self, input: &Input, count: u64) {
         let mut reading = Reading::new();
-        match self {
-            Program::Library => repeat(input, count, |bytes| library(bytes, black_box(&mut reading))),
-            Program::C => repeat(input, count, |bytes| c_parser(bytes, black_box(&mut reading))),
-            Program::Second => repeat(input, count, second::judge),
+        match (self, input.checked) {
+            (Program::Library, false) => repeat(input, count, |bytes| library(bytes, black_box(&mut reading))),
+            (Program::Library, true) => repeat(input, count, |bytes| library_checked(bytes, black_box(&mut reading))),
+            (Program::C, false) => repeat(input, count, |bytes| c_parser(bytes, black_box(&mut reading))),
+            (Program::C, true) => repeat(input, count, |bytes| c_parser_checked(bytes, black_box(&mut reading))),
+            (Program::Second, false) => repeat(input, count, second::judge),
+            (Program::Second, true) => repeat(input, count, second::judge_checked),
         }
     }
 }
@@ -92,9 +101,19 @@ fn library(bytes: &[u8], Reading { numbers, connection }: &mut Reading) -> u32 {
     unsafe { dawnhawse_read(bytes.as_ptr(), bytes.len(), numbers.as_mut_ptr(), numbers.len(), connection.as_mut_ptr(), connection.len()) }
 }
 
+fn library_checked(bytes: &[u8], Reading { numbers, connection }: &mut Reading) -> u32 {
+    // SAFETY: as above.
+    unsafe { dawnhawse_read_checked(bytes.as_ptr(), bytes.len(), numbers.as_mut_ptr(), numbers.len(), connection.as_mut_ptr(), connection.len()) }
+}
+
 fn c_parser(bytes: &[u8], reading: &mut Reading) -> u32 {
     // SAFETY: the bytes are valid for their length, and the reading has the layout of the parser's header.
     unsafe { parser_read(bytes.as_ptr(), bytes.len(), reading) }
+}
+
+fn c_parser_checked(bytes: &[u8], reading: &mut Reading) -> u32 {
+    // SAFETY: as above.
+    unsafe { parser_read_checked(bytes.as_ptr(), bytes.len(), reading) }
 }
 
 fn second_answer(verdict: &Verdict) -> Answer {

@@ -21,22 +21,16 @@ use Rattle.answer.specs.Sight.{callerRecord, inBytes, recordBy}
 use Rattle.lent.specs.Buffers.{over}
 use Rattle.connection.specs.Connection.{connectionSize}
 
--- ── the six parts of a connection, put one behind the other ──
-pub six-parts : (a b c p q z d d₁ d₂ d₃ d₄ d₅ d₆ : List ℕ) → length a ≡ 1 → length b ≡ 108 → length c ≡ 108 → length p ≡ 2 → length q ≡ 2
-    → length z ≡ 1 → connectionSize ≤ length d → d₁ ≡ placed a 0 d → d₂ ≡ placed b 1 d₁ → d₃ ≡ placed c 109 d₂ → d₄ ≡ placed p 217 d₃
-    → d₅ ≡ placed q 219 d₄ → d₆ ≡ placed z 221 d₅ → d₆ ≡ over (a ++ b ++ c ++ p ++ q ++ z) d
-six-parts a b c p q z d d₁ d₂ d₃ d₄ d₅ d₆ la lb lc lp lq lz room e₁ e₂ e₃ e₄ e₅ e₆ =
+-- ── the four parts of a connection, put one behind the other ──
+pub four-parts : (a b c z d d₁ d₂ d₃ d₄ : List ℕ) → length a ≡ 1 → length b ≡ 108 → length c ≡ 108 → length z ≡ 5 → connectionSize ≤ length d
+    → d₁ ≡ placed a 0 d → d₂ ≡ placed b 1 d₁ → d₃ ≡ placed c 109 d₂ → d₄ ≡ placed z 217 d₃ → d₄ ≡ over (a ++ b ++ c ++ z) d
+four-parts a b c z d d₁ d₂ d₃ d₄ la lb lc lz room e₁ e₂ e₃ e₄ =
     let ab = length-append a b in
     let abc = length-append (a ++ b) c in
-    let abcp = length-append (a ++ b ++ c) p in
-    let abcpq = length-append (a ++ b ++ c ++ p) q in
-    let abcpqz = length-append (a ++ b ++ c ++ p ++ q) z in
+    let abcz = length-append (a ++ b ++ c) z in
     let two = placed-then a b d d₁ d₂ 0 1 e₁ e₂ (omega arith) (omega arith) in
     let three = placed-then (a ++ b) c d d₂ d₃ 0 109 two e₃ (omega arith) (omega arith) in
-    let four = placed-then (a ++ b ++ c) p d d₃ d₄ 0 217 three e₄ (omega arith) (omega arith) in
-    let five = placed-then (a ++ b ++ c ++ p) q d d₄ d₅ 0 219 four e₅ (omega arith) (omega arith) in
-    placed-then (a ++ b ++ c ++ p ++ q) z d d₅ d₆ 0 221 five e₆ (omega arith) (omega arith)
-    ∙ placed-front (a ++ b ++ c ++ p ++ q ++ z) d (omega arith)
+    placed-then (a ++ b ++ c) z d d₃ d₄ 0 217 three e₄ (omega arith) (omega arith) ∙ placed-front (a ++ b ++ c ++ z) d (omega arith)
 
 -- a record in memory, by its parts
 pub record-again : (r : Record) → length (r .source) ≡ 108 → length (r .destination) ≡ 108

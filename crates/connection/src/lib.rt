@@ -49,18 +49,17 @@ fn put_connection(
     ensures { λ _. ⌜ now (out .exit) ≡ over (connectionBytes (withChecksum checksum (recordOf kind (now (source .entry)) (now (destination .entry)) «source_port» «destination_port»))) (now (out .entry)) ⌝ }
 {
     let code = [code_of(kind)];
-    let from = [(source_port / 256) as u8, (source_port % 256) as u8];
-    let to = [
+    let rest = [
+        (source_port / 256) as u8,
+        (source_port % 256) as u8,
         (destination_port / 256) as u8,
         (destination_port % 256) as u8,
+        state_byte(checksum),
     ];
-    let state = [state_byte(checksum)];
     lent::put(&code, out, 0);
     put_address(source, out, 1);
     put_address(destination, out, 109);
-    lent::put(&from, out, 217);
-    lent::put(&to, out, 219);
-    lent::put(&state, out, 221);
+    lent::put(&rest, out, 217);
 }
 
 // Puts the connection that is seen in the bytes, with this state, where the output has room for it; else it stays as it is. The addresses are lent by the
