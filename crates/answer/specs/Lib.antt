@@ -1,6 +1,5 @@
 pub mod Answers
 pub mod Sight
-pub mod SightLaws
 pub mod OneSight
 pub mod StageLaws
 pub mod OutputLaws

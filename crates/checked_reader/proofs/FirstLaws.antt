@@ -3,24 +3,24 @@ use mathlib.Core.Path.{_≡_, refl, sym, ap, ap₂, _∙_, subst}
 use mathlib.Core.Bool.{Bool, true, false}
 use mathlib.Core.List.{List, [], _∷_, _++_, append-assoc}
 use mathlib.Core.Logic.{_⊎_, inl, inr, ⊎-elim}
-use mathlib.Core.Option.{some, none as nothing}
+use mathlib.Core.Option.{Option, some, none as nothing}
 use Prim.Native.Nat.{ℕ, suc, _+_, _-_, _≤_, _<_}
 use native.Mathlib.Omega.{arith}
 use borrow.Author.Tests.{eqb-true, eqb-false, eq-eqb, ne-eqb, le-leb, le-ltb}
 use lib.Dec.{eqb}
 use lib.ListN.{length, take, drop, replicate, length-append, length-replicate}
 use lib.Seq.{take-at, drop-at}
-use Rattle.exact.specs.Pick.{pick}
+use Rattle.exact.specs.Pick.{pick, pick-by}
 use Rattle.exact.specs.Network.{network}
 use Rattle.lent.specs.Same.{same}
-use Rattle.tlv.specs.Tlv.{Tlv, tlvBytes, written, Proper, Area}
+use Rattle.tlv.specs.Tlv.{Tlv, tlvBytes, written, Proper, Area, WellFormed}
 use Rattle.tlv.specs.Laws.{written-append}
-use Rattle.tlv.specs.Test.{well-formed-tested}
+use Rattle.tlv.specs.Test.{wellFormed, well-formed-tested}
 use Rattle.tlv.specs.Listed.{tlvsOf, tlvs-of, few}
 use Rattle.tlv.specs.Heads.{head-rest}
 use Rattle.crc.specs.Crc.{checksum, stored, cleared}
 use Rattle.lookup.specs.declared.Examined.{Examined}
-use Rattle.lookup.specs.Lookup.{Finding, found, absent, Lookup, foundAt, without, toldFinding, toldLookup, firstOf, lookupIn}
+use Rattle.lookup.specs.Lookup.{Finding, found, absent, Lookup, foundAt, without, toldFinding, toldLookup, firstOf, lookupIn, LooksUp}
 use Rattle.lookup.specs.Laws.{first-counts}
 use Rattle.tlv_count.specs.Count.{countOf, noneTest}
 use Rattle.record.specs.declared.Checksum.{Checksum}
@@ -81,14 +81,14 @@ module _ (area : List ℕ) (tlvs : List Tlv) (a : Area area tlvs) (r : Examined)
       (ap (λ (w : ℕ). firstOf w (f .before)) (f .is) ∙ first-at-end 0x03 (f .before) (f .none)) size
 
   -- where it finds none there is none
-  pub absent-state : (header : List ℕ) → (toldFinding (r .answer) ≡ found → ⊥) → stateIn header (tlvsOf area) ≡ some Absent
+  absent-state : (header : List ℕ) → (toldFinding (r .answer) ≡ found → ⊥) → stateIn header (tlvsOf area) ≡ some Absent
   absent-state header other =
       ap (stateIn header) (tlvs-of area tlvs a)
       ∙ ⊎-elim (λ none. means-one header tlvs (some Absent) (no-checksum none)) (λ f. absurd (other (ap (λ (l : Lookup). l .outcome) (one-found f))))
       (first-or-none 0x03 tlvs)
 
   -- and what it finds is the first
-  pub found-first : (header : List ℕ) → LastPart header area → toldFinding (r .answer) ≡ found → FirstAt header area (r .start) (r .length)
+  found-first : (header : List ℕ) → LastPart header area → toldFinding (r .answer) ≡ found → FirstAt header area (r .start) (r .length)
   found-first header last is =
       ⊎-elim
       (λ none. let e = sym is ∙ ap (λ (l : Lookup). l .outcome) (none-found none) in let z : _≡_ {A = ℕ} 0 1 = cc in absurd (omega arith))
@@ -103,6 +103,34 @@ module _ (area : List ℕ) (tlvs : List Tlv) (a : Area area tlvs) (r : Examined)
         sized = ap (λ (l : Lookup). l .length) e;
       })
       (first-or-none 0x03 tlvs)
+
+-- ── whatever the area is ──
+module _ (area : List ℕ) (r : Examined) (looks : LooksUp area 0x03 (length area) r) (header : List ℕ) where
+  -- the state of the header that ends with it
+  abbrev here : Option Checksum
+  here = pick (wellFormed area) (stateIn header (tlvsOf area)) (some Absent)
+
+  pub fills : toldFinding (r .answer) ≡ found → WellFormed area
+  fills is = by (wellFormed area) refl
+    where
+      by : (b : Bool) → wellFormed area ≡ b → WellFormed area
+      by true e = well-formed-tested area .0 e
+      by false e =
+          let told = looks .refuses (λ w. let t = well-formed-tested area .1 w in let z : _≡_ {A = ℕ} 0 1 = cc in omega arith) in
+          let other = sym is ∙ ap (λ (l : Lookup). l .outcome) told in
+          let z : _≡_ {A = ℕ} 0 1 = cc in absurd (omega arith)
+
+  pub found-here : LastPart header area → toldFinding (r .answer) ≡ found → FirstAt header area (r .start) (r .length)
+  found-here last is = let w = fills is in found-first area (w .0) (w .1) r (looks .listed (w .0) (w .1)) header last is
+
+  pub filled-here : WellFormed area → stateIn header (tlvsOf area) ≡ here
+  filled-here w = ap (λ (b : Bool). pick b (stateIn header (tlvsOf area)) (some Absent)) (sym (well-formed-tested area .1 w))
+
+  pub absent-here : (toldFinding (r .answer) ≡ found → ⊥) → some Absent ≡ here
+  absent-here other =
+      pick-by (λ (x : Option Checksum). some Absent ≡ x) (wellFormed area)
+      (λ e. let w = well-formed-tested area .0 e in sym (absent-state area (w .0) (w .1) r (looks .listed (w .0) (w .1)) header other))
+      (λ e. refl)
 
 -- ── what the first says ──
 proper-behind : (a b : List Tlv) → Proper (a ++ b) → Proper b

@@ -1,6 +1,5 @@
 // Checked reading: the plain reader's answer, and what the checksum TLV of a header says of it (document 02, K6).
 // No public function has a `requires`.
-use answer::Seen;
 use answer::Verdict;
 use area::area_span;
 use crc::crc32c_cleared;
@@ -10,8 +9,7 @@ use lent::front;
 use lent::same_bytes;
 use lookup::Answer;
 use lookup::lookup;
-use reader::record_of;
-use reader::see;
+use reader::read;
 use record::Checksum;
 use record::Kind;
 use record::Record;
@@ -21,27 +19,17 @@ use tlv_count::has_none;
 ghost use mathlib.Core.Path.{_≡_};
 ghost use lib.ListN.{take, drop};
 ghost use Rattle.lent.specs.Same.{same};
-ghost use Rattle.tlv.specs.Tlv.{WellFormed};
 ghost use Rattle.tlv.specs.Listed.{tlvsOf};
 ghost use Rattle.crc.specs.Crc.{checksum as checksumOfBytes, stored, cleared};
-ghost use Rattle.fields.specs.Exactness.{verdict as verdictOn};
-ghost use Rattle.answer.specs.Sight.{readingOf, callerBy};
-ghost use Rattle.reader.specs.Read.{Reads};
 ghost use Rattle.checksum.specs.Checked.{Checks};
-ghost use Rattle.checksum.specs.State.{stateIn, stateOn, checkedVerdict};
+ghost use Rattle.checksum.specs.State.{stateIn, stateFrom, checkedVerdict};
 ghost use Rattle.checked_reader.specs.CheckedReading.{toldCheck, toldChecked, unusedChecked};
-ghost use Rattle.checked_reader.specs.First.{LastPart, FirstAt};
+ghost use Rattle.checked_reader.specs.First.{FirstAt};
 
 // What the checksum of a header says: the state of its record, or that it is wrong.
 pub enum Check {
     State(Checksum),
     Wrong,
-}
-
-// What is seen in the bytes, and what the checksum of the header that they begin with says; absent where there is none.
-pub struct CheckedSight {
-    pub seen: Seen,
-    pub check: Check,
 }
 
 // A verdict as the plain reader gives it, or 23.
@@ -82,11 +70,11 @@ fn check_value(header: &[u8], area: &[u8], start: usize, size: usize) -> Check
     }
 }
 
-// What the checksum of a header says, whose last bytes are this area.
-fn check_area(header: &[u8], area: &[u8]) -> Check
-    requires { ⌜ LastPart (now header) (now area) × WellFormed (now area) ⌝ }
-    ensures { λ r. ⌜ toldCheck r ≡ stateIn (now (header .entry)) (tlvsOf (now (area .entry))) ⌝ }
+// What the checksum of a header says, whose TLV area starts at this place; absent where TLVs do not fill what is there.
+pub fn check_header(header: &[u8], start: usize) -> Check
+    ensures { λ r. ⌜ toldCheck r ≡ stateFrom (now (header .entry)) start ⌝ }
 {
+    let area = behind(header, start);
     let found = lookup(area, 0x03, area.len());
     let answer = found.answer;
     match answer {
@@ -97,37 +85,22 @@ fn check_area(header: &[u8], area: &[u8]) -> Check
     }
 }
 
-// What is seen in the bytes so far, as the plain reader sees it, with the state of the header's checksum.
-pub fn see_checked(s: &[u8]) -> CheckedSight
-    ensures reads { λ r. ⌜ Reads (now (s .entry)) (readingOf (now (s .entry)) (r .seen)) ⌝ }
-    ensures caller { λ r. ⌜ r .seen .caller ≡ callerBy (verdictOn (now (s .entry))) ⌝ }
-    ensures check { λ r. ⌜ toldCheck (r .check) ≡ stateOn (now (s .entry)) (verdictOn (now (s .entry))) ⌝ }
-{
-    let seen = see(s);
-    let verdict = seen.verdict;
-    let caller = seen.caller;
-    let kind = caller.kind;
-    let span = area_span(verdict, kind, s.len());
-    let start = span.start;
-    let end = span.end;
-    let check = check_area(&s[..end], &s[start..end]);
-    CheckedSight { seen, check }
-}
-
 // A checked reading of the bytes so far.
 pub fn read_checked(s: &[u8]) -> CheckedReading
     ensures { λ r. ⌜ (toldChecked (now (s .entry)) r ≡ checkedVerdict (now (s .entry)))
         × unusedChecked r
         × Checks (now (s .entry)) (toldChecked (now (s .entry)) r) ⌝ }
 {
-    let sight = see_checked(s);
-    let seen = sight.seen;
-    let check = sight.check;
-    let verdict = seen.verdict;
+    let reading = read(s);
+    let verdict = reading.verdict;
+    let record = reading.record;
+    let kind = record.kind;
+    let span = area_span(verdict, kind, s.len());
+    let check = check_header(front(s, span.end), span.start);
     match check {
         Check::State(checksum) => CheckedReading {
             verdict: CheckedVerdict::Judged(verdict),
-            record: with_checksum(record_of(s, seen), checksum),
+            record: with_checksum(record, checksum),
         },
         Check::Wrong => CheckedReading {
             verdict: CheckedVerdict::WrongChecksum,

@@ -5,11 +5,13 @@ use mathlib.Core.List.{List, [], _∷_}
 use mathlib.Core.Option.{Option, some, none}
 use Prim.Native.Nat.{ℕ, _≤_}
 use native.Mathlib.Omega.{arith}
-use lib.ListN.{length, take}
+use lib.ListN.{length, take, drop}
 use Rattle.exact.specs.Claim.{Verdict, accepted, more, refused}
 use Rattle.exact.specs.Pick.{pick}
 use Rattle.lent.specs.Same.{same, same-equal}
 use Rattle.tlv.specs.Tlv.{Tlv}
+use Rattle.tlv.specs.Test.{wellFormed}
+use Rattle.tlv.specs.Listed.{tlvsOf}
 use Rattle.record.specs.declared.Checksum.{Checksum}
 use Rattle.record.specs.declared.Checksum.the-variants.{Absent, Matched}
 use Rattle.header.specs.Header.{Header}
@@ -25,6 +27,10 @@ stateBy (value ∷ another ∷ rest) sum = none
 
 abbrev pub stateIn : List ℕ → List Tlv → Option Checksum
 stateIn f tlvs = stateBy (valuesOf 0x03 tlvs) (checksumOf f tlvs)
+
+-- the state of the header f whose TLV area starts at this place; absent where TLVs do not fill what is there
+abbrev pub stateFrom : List ℕ → (start : ℕ) → Option Checksum
+stateFrom f start = pick (wellFormed (drop start f)) (stateIn f (tlvsOf (drop start f))) (some Absent)
 
 -- what the state of the header f with these TLVs means
 pub data Means (f : List ℕ) (tlvs : List Tlv) : Option Checksum → Type 0 where

@@ -62,10 +62,10 @@ fn put_connection(
     lent::put(&rest, out, 217);
 }
 
-// Puts the connection that is seen in the bytes, with this state, where the output has room for it; else it stays as it is. The addresses are lent by the
+// Puts the connection that is seen in the bytes, where the output has room for it; else it stays as it is. The addresses are lent by the
 // bytes or by the caller, and copied once.
-pub fn put_seen(bytes: &[u8], seen: Seen, checksum: Checksum, out: &mut [u8])
-    ensures { λ _. ⌜ now (out .exit) ≡ toldIn connectionSize (connectionBytes (withChecksum checksum (recordBy (seen .verdict) (now (bytes .entry)) (seen .caller)))) (now (out .entry)) ⌝ }
+pub fn put_seen(bytes: &[u8], seen: Seen, out: &mut [u8])
+    ensures { λ _. ⌜ now (out .exit) ≡ toldIn connectionSize (connectionBytes (recordBy (seen .verdict) (now (bytes .entry)) (seen .caller))) (now (out .entry)) ⌝ }
 {
     if out.len() < CONNECTION {
         return;
@@ -82,7 +82,7 @@ pub fn put_seen(bytes: &[u8], seen: Seen, checksum: Checksum, out: &mut [u8])
         let q = destination_port_of(kind, block);
         let from = front(block, n);
         let to = front(behind(block, n), n);
-        put_connection(kind, from, to, p, q, checksum, out);
+        put_connection(kind, from, to, p, q, Checksum::Absent, out);
     } else {
         let from = front(&source, n);
         let to = front(&destination, n);
@@ -92,7 +92,7 @@ pub fn put_seen(bytes: &[u8], seen: Seen, checksum: Checksum, out: &mut [u8])
             to,
             caller.source_port,
             caller.destination_port,
-            checksum,
+            Checksum::Absent,
             out,
         );
     }

@@ -1,14 +1,14 @@
 -- What the papers say of whole headers, proved of their definitions: how long they are, where bytes are refused, and which TLV area and record
 -- a header has. The rules for the two length bytes of a TLV are in crate `tlv`, Rules.
 use mathlib.Core.Path.{_≡_, refl, sym, ap, _∙_, subst}
-use mathlib.Core.List.{List, [], _∷_, _++_}
+use mathlib.Core.List.{List, [], _∷_, _++_, append-assoc}
 use mathlib.Core.Logic.{_⊎_, inl, inr, ⊎-elim}
 use mathlib.Core.Option.{some, none}
-use Prim.Native.Nat.{ℕ, suc, _+_, _≤_, _<_}
+use Prim.Native.Nat.{ℕ, suc, _+_, _-_, _≤_, _<_}
 use native.Mathlib.Nat.{lt-of-not-le}
 use native.Mathlib.Numerals.{add-one}
 use native.Mathlib.Omega.{arith}
-use lib.ListN.{length, getD, take, drop, replicate, length-append}
+use lib.ListN.{length, getD, take, drop, replicate, length-append, drop-of-length-le}
 use lib.Seq.{split-at, length-take-le, take-suc, take-length, drop-at}
 use Rattle.exact.specs.Ascii.{ascii}
 use Rattle.exact.specs.Network.{network, number, numberAt}
@@ -36,7 +36,7 @@ use Rattle.header.specs.Header.{Header, Whole}
 use Rattle.header.specs.Demand.{Judges}
 use Rattle.fields.specs.BlockMembers.{addresses-length}
 use Rattle.fields.specs.Exactness.{verdict, judges-only, judges-stays}
-use Rattle.fields.specs.FactsForProofs.{by-verdict, framed-length, block-bounds, header-least, kept, tcp-kept, group-bytes, unknown-verdict, rest-more, rest-refused, number-seven, number-eight, high-lives, first-thirteen, family-verdict, no-family, local-taken, length-verdict}
+use Rattle.fields.specs.FactsForProofs.{by-verdict, framed-length, block-bounds, header-least, kept, tcp-kept, group-bytes, unknown-verdict, rest-more, rest-refused, place-number, number-seven, number-eight, high-lives, first-thirteen, family-verdict, no-family, local-taken, length-verdict}
 
 -- ── the text line ──
 -- "The whole line has at most 107 bytes"
@@ -197,6 +197,10 @@ eight-at-fifteen s p bytes x =
     omega arith
 
 -- ── both versions ──
+-- "Numbered answers", 1 to 9: no refusal has another number
+pub refusal-number : (s : List ℕ) (k p : ℕ) → Judges (refused k p) s → (1 ≤ k) × (k ≤ 9)
+refusal-number s k p x = rw (x .3) (place-number (take p s))
+
 pub longest-line : (f : List ℕ) (r : Record) → Line f r → length f ≤ 107
 longest-line f r (inl l) = longest-unknown f r l
 longest-line f r (inr (inl l)) = let b = longest-tcp4 f r l in omega arith
@@ -266,6 +270,23 @@ area-empty f h (inr (inl w, x)) empty = w .2
 area-empty f h (inr (inr (inl w), x)) empty = w .2
 area-empty f h (inr (inr (inr w), x)) empty =
     absurd (⊎-elim (λ v. omega arith) (λ no. no (kind-of _ (h .«record») (sym (w .addresses .says)) (w .has))) empty)
+
+-- so it is the header's last bytes
+pub area-last : (f : List ℕ) (h : Header) → Whole f h → drop (length f - length (h .area)) f ≡ h .area
+area-last f h w = by w
+  where
+    none : h .area ≡ [] → drop (length f - length (h .area)) f ≡ h .area
+    none e = rw e (let h : length f ≤ length f - 0 = omega arith in drop-of-length-le f h)
+
+    by : Whole f h → drop (length f - length (h .area)) f ≡ h .area
+    by (inl w) = none (w .2)
+    by (inr (inl w, x)) = none (w .2)
+    by (inr (inr (inl w), x)) = none (w .2)
+    by (inr (inr (inr w), x)) =
+        let front = signature ++ PROXY ∷ w .byte13 ∷ network (length (w .block ++ h .area)) ++ w .block in
+        let split : f ≡ front ++ h .area = w .framed .split ∙ simp append-assoc in
+        let size : length front ≡ length f - length (h .area) = let e = ap length split in let l = length-append front (h .area) in omega arith in
+        ap (drop (length f - length (h .area))) split ∙ drop-at front (h .area) (length f - length (h .area)) size
 
 -- "The rest of the block is TLVs; they fill it exactly": TLVs fill the area of every header
 pub area-filled : (f : List ℕ) (h : Header) → Whole f h → WellFormed (h .area)

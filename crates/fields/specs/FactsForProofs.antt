@@ -172,23 +172,37 @@ block-located n =
     pick-by (Located n) (ltb n 16) (λ high. (λ e. omega arith, λ e. let b = ltb-true n 16 high in omega arith))
     (λ t. (λ e. omega arith, λ e. omega arith)))))
 
-line-five : (u : List ℕ) → lineNumber u ≤ 5
-line-five u =
-    let P : ℕ → Type 0 = λ (k : ℕ). k ≤ 5 in
+-- a number of a line is from 1 to 5
+either-way : (P : ℕ → Type 0) (b : Bool) {m n : ℕ} → P m → P n → P (pick b m n)
+either-way P b h k = pick-by P b (λ t. h) (λ t. k)
+
+line-bounds : (u : List ℕ) → (1 ≤ lineNumber u) × (lineNumber u ≤ 5)
+line-bounds u =
+    let P : ℕ → Type 0 = λ (k : ℕ). (1 ≤ k) × (k ≤ 5) in
     let n = partsEnded u in
-    pick-by P (eqb (getD u 6 0) 85)
-    (λ t. pick-by P (ltb n 1) (λ t. omega arith) (λ t. pick-by P (ltb n 2) (λ t. omega arith) (λ t. omega arith)))
-    (λ t.
-    pick-by P (ltb n 1) (λ t. omega arith)
-    (λ t.
-    pick-by P (ltb n 2) (λ t. omega arith)
-    (λ t. pick-by P (ltb n 4) (λ t. omega arith) (λ t. pick-by P (ltb n 6) (λ t. omega arith) (λ t. omega arith)))))
+    either-way P (eqb (getD u 6 0) 85)
+    (either-way P (ltb n 1) (omega arith, omega arith) (either-way P (ltb n 2) (omega arith, omega arith) (omega arith, omega arith)))
+    (either-way P (ltb n 1) (omega arith, omega arith)
+    (either-way P (ltb n 2) (omega arith, omega arith)
+    (either-way P (ltb n 4) (omega arith, omega arith) (either-way P (ltb n 6) (omega arith, omega arith) (omega arith, omega arith)))))
 
 -- a number above 5 is that of a place in a block
 above-five : (k : ℕ) (u : List ℕ) → 5 < k → k ≡ placeNumber u → (getD u 0 0 ≡ 13) × (k ≡ blockNumber (length u))
 above-five k u over =
     pick-by (λ (m : ℕ). k ≡ m → (getD u 0 0 ≡ 13) × (k ≡ blockNumber (length u))) (eqb (getD u 0 0) 13)
-    (λ t e. (eqb-true (getD u 0 0) 13 t, e)) (λ t e. let h = line-five u in absurd (omega arith))
+    (λ t e. (eqb-true (getD u 0 0) 13 t, e)) (λ t e. let h = line-bounds u in absurd (omega arith))
+
+-- every place's number is from 1 to 9
+pub place-number : (u : List ℕ) → (1 ≤ placeNumber u) × (placeNumber u ≤ 9)
+place-number u =
+    let P : ℕ → Type 0 = λ (k : ℕ). (1 ≤ k) × (k ≤ 9) in
+    let n = length u in
+    let line = line-bounds u in
+    either-way P (eqb (getD u 0 0) 13)
+    (either-way P (ltb n 12) (omega arith, omega arith)
+    (either-way P (ltb n 13) (omega arith, omega arith)
+    (either-way P (ltb n 14) (omega arith, omega arith) (either-way P (ltb n 16) (omega arith, omega arith) (omega arith, omega arith)))))
+    (line .0, omega arith)
 
 pub number-seven : (u : List ℕ) → 7 ≡ placeNumber u → (getD u 0 0 ≡ 13) × (length u ≡ 13)
 number-seven u e = let v = above-five 7 u (omega arith) e in (v .0, block-located (length u) .0 (v .1))

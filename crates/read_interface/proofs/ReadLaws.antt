@@ -1,37 +1,32 @@
--- A reading that answers a verdict tells its numbers and its record, with the state that the checksum says.
-use mathlib.Core.Path.{_≡_, refl, sym, ap, _∙_, subst}
+-- A reading that answers a verdict tells its numbers and its record.
+use mathlib.Core.Path.{_≡_, refl, sym, ap, _∙_}
 use mathlib.Core.Bool.{Bool, true, false}
 use mathlib.Core.List.{List, [], _∷_}
-use mathlib.Core.Option.{Option, some, none}
 use Prim.Native.Nat.{ℕ, _-_, _≤_, _<_}
 use native.Mathlib.Omega.{arith}
 use lib.ListN.{length, take, drop, length-take, length-drop}
 use borrow.Author.Tests.{le-leb, lt-leb}
 use Rattle.exact.specs.Claim as Claim
-use Rattle.exact.specs.Claim.{accepted, more, refused}
 use Rattle.exact.specs.Pick.{pick}
 use Rattle.record.specs.declared.Kind.{Kind}
-use Rattle.record.specs.declared.Checksum.{Checksum}
-use Rattle.record.specs.declared.Checksum.the-variants.{Absent}
 use Rattle.record.specs.declared.Record.{Record}
-use Rattle.record.specs.Records.{withChecksum}
+use Rattle.address_block.specs.AddressBlock.{blockRecord}
 use Rattle.header.specs.Header.{Header}
 use Rattle.answer.specs.declared.Verdict.{Verdict}
 use Rattle.answer.specs.declared.Verdict.the-variants.{Accepted, More, Refused}
 use Rattle.answer.specs.declared.Reading.{Reading}
+use Rattle.answer.specs.declared.Caller.{Caller}
 use Rattle.answer.specs.declared.Seen.{Seen}
-use Rattle.answer.specs.Sight.{readingOf}
-use Rattle.answer.specs.SightLaws.{kind-seen, absent-seen}
+use Rattle.answer.specs.Sight.{callerRecord, inBytes, recordBy, readingOf}
 use Rattle.answer.specs.Answers.{Answers, toldVerdict, bareUnless}
 use Rattle.area.specs.Area.{areaBy, areaStart, areaEnd}
 use Rattle.area.specs.AreaLaws.{area-inside, area-part}
 use Rattle.numbers.specs.declared.Told.{Told}
-use Rattle.checksum.specs.State.{stateOn, checkedBy}
-use Rattle.lent.specs.Buffers.{over}
+use Rattle.lent.specs.Buffers.{over, toldIn}
+use Rattle.lent.specs.BufferLaws.{roomy}
 use Rattle.numbers.specs.Numbers.{numbersSize, toldOf}
 use Rattle.connection.specs.Connection.{connectionSize, connectionBytes}
-use Rattle.read_interface.specs.ReadInterface.{Spoken, nobody, spoken, spokenChecked, roomFor, ReadTold}
-use Rattle.read_interface.specs.Telling.{Roomy, four, ToldSeen}
+use Rattle.read_interface.specs.ReadInterface.{Spoken, spoken, roomFor, ReadTold}
 
 -- ── what is seen tells the verdict ──
 spoken-by : (s : List ℕ) (w : Verdict) (r : Reading) (v : Claim.Verdict Header) → toldVerdict s w r ≡ v → bareUnless w r → spoken v .«record» ≡ r .record
@@ -50,6 +45,9 @@ area-length w kind s =
     in
     sym (ap length (area-part w kind s)) ∙ size
 
+abbrev four : Told → List ℕ
+four t = t .first ∷ t .second ∷ t .start ∷ t .length ∷ []
+
 -- what is told of a verdict is the answer and the numbers of what it says
 abbrev Tells : Spoken → Told → Type 0
 Tells v t = (t .answer ≡ v .answer) × (four t ≡ v .numbers)
@@ -63,45 +61,21 @@ tells-by s (Accepted n x) r v e = (
 tells-by s (More n) r v e = (ap (λ (y : Claim.Verdict Header). spoken y .answer) e, ap (λ (y : Claim.Verdict Header). spoken y .numbers) e)
 tells-by s (Refused k p) r v e = (ap (λ (y : Claim.Verdict Header). spoken y .answer) e, ap (λ (y : Claim.Verdict Header). spoken y .numbers) e)
 
-tells : (s : List ℕ) (v : Claim.Verdict Header) (seen : Seen) → Answers s v (readingOf s seen)
-    → Tells (spoken v) (toldOf (seen .verdict) (seen .caller .kind) (length s))
-tells s v seen a =
-    subst (λ (k : Kind). Tells (spoken v) (toldOf (seen .verdict) k (length s))) (kind-seen (seen .verdict) s (seen .caller))
-    (tells-by s (seen .verdict) (readingOf s seen) v (a .told))
+-- the kind of what is seen, wherever its addresses stand
+kind-seen : (w : Verdict) (s : List ℕ) (c : Caller) → recordBy w s c .kind ≡ c .kind
+kind-seen w s c = by (inBytes w)
+  where
+    by : (b : Bool) → pick b (blockRecord (c .kind) (drop 16 s)) (callerRecord c) .kind ≡ c .kind
+    by true = refl
+    by false = refl
 
--- ── a state ──
--- what is told beside a verdict that has this state: the same, with the state in the record
-pub record Beside (v : Claim.Verdict Header) (c : Checksum) (x : Spoken) : Type 0 where
-  pub answer : x .answer ≡ spoken v .answer
-  pub numbers : x .numbers ≡ spoken v .numbers
-  pub «record» : x .«record» ≡ withChecksum c (spoken v .«record»)
-
--- the plain reader's is absent
-pub beside-plain : {s : List ℕ} {v : Claim.Verdict Header} (seen : Seen) → Answers s v (readingOf s seen) → Beside v Absent (spoken v)
-beside-plain {s} {v} seen a =
-    record {
-      answer = refl;
-      numbers = refl;
-      «record» = spoken-record a ∙ sym (ap (withChecksum Absent) (spoken-record a) ∙ absent-seen (seen .verdict) s (seen .caller));
-    }
-
--- a checked reading's is the one that the checksum says
-pub beside-checked : (s : List ℕ) (v : Claim.Verdict Header) (c : Checksum) → some c ≡ stateOn s v → Beside v c (spokenChecked (checkedBy v (stateOn s v)))
-beside-checked s (accepted h n) c e =
-    subst (λ (x : Option Checksum). Beside (accepted h n) c (spokenChecked (checkedBy (accepted h n) x))) e
-    (record { answer = refl; numbers = refl; «record» = refl })
-beside-checked s (more n) c e =
-    let is : c ≡ Absent = cc in
-    record { answer = refl; numbers = refl; «record» = rw is }
-beside-checked s (refused k p) c e =
-    let is : c ≡ Absent = cc in
-    record { answer = refl; numbers = refl; «record» = rw is }
-
--- where the checksum is wrong
-pub wrong-checked : (s : List ℕ) (v : Claim.Verdict Header) → none ≡ stateOn s v → nobody 23 0 ≡ spokenChecked (checkedBy v (stateOn s v))
-wrong-checked s (accepted h n) e = ap (λ (x : Option Checksum). spokenChecked (checkedBy (accepted h n) x)) e
-wrong-checked s (more n) e = let z : _≡_ {A = ℕ} 0 1 = cc in absurd (omega arith)
-wrong-checked s (refused k p) e = let z : _≡_ {A = ℕ} 0 1 = cc in absurd (omega arith)
+tells : (s : List ℕ) (v : Claim.Verdict Header) (seen : Seen) (t : Told) → Answers s v (readingOf s seen)
+    → t ≡ toldOf (seen .verdict) (seen .caller .kind) (length s) → Tells (spoken v) t
+tells s v seen t a e =
+    let same : t ≡ toldOf (seen .verdict) (readingOf s seen .record .kind) (length s) =
+    e ∙ ap (λ (k : Kind). toldOf (seen .verdict) k (length s)) (sym (kind-seen (seen .verdict) s (seen .caller)))
+    in
+    rw same (tells-by s (seen .verdict) (readingOf s seen) v (a .told))
 
 -- ── the room ──
 pub room : (numbers connection : List ℕ) → numbersSize ≤ length numbers → connectionSize ≤ length connection → roomFor numbers connection ≡ true
@@ -125,21 +99,20 @@ module _ (x : Spoken) (numbers connection : List ℕ) where
     ap (λ (b : Bool). pick b (over (connectionBytes (x .«record»)) connection) connection) (sym e),
   )
 
-  pub told-as : (answer : ℕ) (n c : List ℕ) → Roomy numbers connection → answer ≡ x .answer → n ≡ over (x .numbers) numbers
+  pub told-as : (answer : ℕ) (n c : List ℕ) → roomFor numbers connection ≡ true → answer ≡ x .answer → n ≡ over (x .numbers) numbers
       → c ≡ over (connectionBytes (x .«record»)) connection → Left answer n c
-  told-as answer n c room-both a en ec =
-      let enough = room numbers connection (room-both .0) (room-both .1) in (
-        a ∙ ap (λ (b : Bool). pick b (x .answer) 14) (sym enough),
-        en ∙ ap (λ (b : Bool). pick b (over (x .numbers) numbers) numbers) (sym enough),
-        ec ∙ ap (λ (b : Bool). pick b (over (connectionBytes (x .«record»)) connection) connection) (sym enough),
-      )
+  told-as answer n c enough a en ec = (
+    a ∙ ap (λ (b : Bool). pick b (x .answer) 14) (sym enough),
+    en ∙ ap (λ (b : Bool). pick b (over (x .numbers) numbers) numbers) (sym enough),
+    ec ∙ ap (λ (b : Bool). pick b (over (connectionBytes (x .«record»)) connection) connection) (sym enough),
+  )
 
-  pub seen-told : (s : List ℕ) (v : Claim.Verdict Header) (seen : Seen) (checksum : Checksum) → Answers s v (readingOf s seen) → Beside v checksum x
-      → (answer : ℕ) (n c : List ℕ) → Roomy numbers connection → ToldSeen s seen checksum numbers connection answer n c → Left answer n c
-  seen-told s v seen checksum a beside answer n c room-both t =
-      let said = tells s v seen a in
-      told-as answer n c room-both (t .0 ∙ said .0 ∙ sym (beside .answer))
-      (t .1 ∙ ap (λ (l : List ℕ). over l numbers) (said .1 ∙ sym (beside .numbers)))
-      (t .2
-      ∙ ap (λ (r : Record). over (connectionBytes r) connection)
-      (ap (withChecksum checksum) (sym (spoken-record a)) ∙ sym (beside .«record»)))
+pub written : (v : Claim.Verdict Header) (numbers connection : List ℕ) (seen : Seen) (t : Told) (s n c : List ℕ) → numbersSize ≤ length numbers
+    → connectionSize ≤ length connection → Answers s v (readingOf s seen) → t ≡ toldOf (seen .verdict) (seen .caller .kind) (length s)
+    → n ≡ toldIn numbersSize (four t) numbers → c ≡ toldIn connectionSize (connectionBytes (recordBy (seen .verdict) s (seen .caller))) connection
+    → ReadTold (spoken v) numbers connection (t .answer) n c
+written v numbers connection seen t s n c h k a e en ec =
+    let said = tells s v seen t a e in
+    told-as (spoken v) numbers connection (t .answer) n c (room numbers connection h k) (said .0)
+    (en ∙ sym (roomy numbersSize numbers _ _ h) ∙ ap (λ (l : List ℕ). over l numbers) (said .1))
+    (ec ∙ sym (roomy connectionSize connection _ _ k) ∙ ap (λ (x : Record). over (connectionBytes x) connection) (sym (spoken-record a)))

@@ -1,3 +1,2 @@
 pub mod ReadInterface
 pub mod LoadInterface
-pub mod Telling

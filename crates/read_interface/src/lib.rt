@@ -1,50 +1,23 @@
 // What C callers are told of received bytes and of stored ones. No public function has a `requires`.
-use answer::Seen;
 use checked_reader::Check;
-use checked_reader::see_checked;
+use checked_reader::check_header;
 use connection::CONNECTION;
 use connection::put_record;
 use connection::put_seen;
+use kind_code::state_byte;
+use lent::front;
 use numbers::NUMBERS;
 use numbers::outcome_number;
 use numbers::put_numbers;
 use numbers::tell;
 use reader::see;
-use record::Checksum;
 use record::Kind;
 use record::blank;
 ghost use Rattle.fields.specs.Exactness.{verdict as verdictOn};
 ghost use Rattle.stored_form.specs.Loading.{loadAnswer};
 ghost use Rattle.checksum.specs.State.{checkedVerdict};
 ghost use Rattle.read_interface.specs.ReadInterface.{spoken, spokenChecked, ReadTold};
-ghost use Rattle.read_interface.specs.Telling.{Roomy, ToldSeen};
 ghost use Rattle.read_interface.specs.LoadInterface.{LoadTold};
-
-// Tells what is seen in the bytes, with this state in the connection.
-fn tell_seen(
-    bytes: &[u8],
-    seen: Seen,
-    checksum: Checksum,
-    numbers: &mut [u64],
-    connection: &mut [u8],
-) -> u32
-    requires { ⌜ Roomy (now numbers) (now connection) ⌝ }
-    ensures { λ r. ⌜ ToldSeen (now (bytes .entry)) seen checksum (now (numbers .entry)) (now (connection .entry)) r (now (numbers .exit)) (now (connection .exit)) ⌝ }
-{
-    let verdict = seen.verdict;
-    let caller = seen.caller;
-    let kind = caller.kind;
-    let found = tell(verdict, kind, bytes.len());
-    put_seen(bytes, seen, checksum, connection);
-    put_numbers(
-        numbers,
-        found.first,
-        found.second,
-        found.start,
-        found.length,
-    );
-    found.answer
-}
 
 // What the bytes so far are: demand 3 of document 01. With room for 4 numbers and 222 bytes of a connection both are told; else nothing
 // is written.
@@ -57,24 +30,36 @@ pub fn read(bytes: &[u8], numbers: &mut [u64], connection: &mut [u8]) -> u32
     if connection.len() < CONNECTION {
         return 14;
     }
-    tell_seen(bytes, see(bytes), Checksum::Absent, numbers, connection)
+    let seen = see(bytes);
+    let verdict = seen.verdict;
+    let caller = seen.caller;
+    let kind = caller.kind;
+    let found = tell(verdict, kind, bytes.len());
+    put_seen(bytes, seen, connection);
+    put_numbers(
+        numbers,
+        found.first,
+        found.second,
+        found.start,
+        found.length,
+    );
+    found.answer
 }
 
-// The same with the checksum judged (document 02, K6).
+// The same with the checksum judged (document 02, K6): of an accepted header it goes by the numbers that were told, and puts the state last.
 pub fn read_checked(bytes: &[u8], numbers: &mut [u64], connection: &mut [u8]) -> u32
     ensures { λ r. ⌜ ReadTold (spokenChecked (checkedVerdict (now (bytes .entry)))) (now (numbers .entry)) (now (connection .entry)) r (now (numbers .exit)) (now (connection .exit)) ⌝ }
 {
-    if numbers.len() < NUMBERS {
-        return 14;
+    let answer = read(bytes, numbers, connection);
+    if answer != 0 {
+        return answer;
     }
-    if connection.len() < CONNECTION {
-        return 14;
-    }
-    let sight = see_checked(bytes);
-    let seen = sight.seen;
-    let check = sight.check;
-    match check {
-        Check::State(checksum) => tell_seen(bytes, seen, checksum, numbers, connection),
+    let header = front(bytes, numbers[0] as usize);
+    match check_header(header, numbers[2] as usize) {
+        Check::State(checksum) => {
+            connection[221] = state_byte(checksum);
+            0
+        }
         Check::Wrong => {
             put_record(blank(Kind::Unspecified), connection);
             put_numbers(numbers, 0, 0, 0, 0);

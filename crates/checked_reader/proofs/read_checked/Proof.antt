@@ -1,4 +1,4 @@
--- `see_checked` ensures what is seen and the state; the answer is the one that is claimed.
+-- `read` ensures the verdict and `check_header` the state; the answer is the one that is claimed.
 use mathlib.Core.Path.{_≡_, refl, sym, ap, _∙_, subst}
 use mathlib.Core.List.{List}
 use mathlib.Core.Option.{Option, some, none}
@@ -17,16 +17,17 @@ use Rattle.fields.specs.Exactness.{verdict}
 use Rattle.answer.specs.declared.Verdict.{Verdict}
 use Rattle.answer.specs.declared.Verdict.the-variants.{Accepted, More, Refused}
 use Rattle.answer.specs.declared.Reading.{Reading}
-use Rattle.answer.specs.Sight.{readingOf}
-use Rattle.answer.specs.Answers.{Answers, toldVerdict, bareUnless}
+use Rattle.answer.specs.Answers.{toldVerdict, bareUnless}
+use Rattle.reader.specs.Read.{Reads}
 use Rattle.checksum.specs.Checked as Checked
 use Rattle.checksum.specs.Checked.{judged, wrong-checksum, Checks}
-use Rattle.checksum.specs.State.{stateOn, checkedBy, checkedVerdict}
+use Rattle.checksum.specs.State.{stateFrom, stateOn, checkedBy, checkedVerdict}
 use Rattle.checksum.specs.Demand.{checks}
 use Rattle.checked_reader.specs.declared.Check.{Check}
 use Rattle.checked_reader.specs.declared.CheckedVerdict.the-variants.{Judged, WrongChecksum}
 use Rattle.checked_reader.specs.declared.CheckedReading.{CheckedReading}
 use Rattle.checked_reader.specs.CheckedReading.{toldCheck, asReading, toldChecked, unusedChecked}
+use Rattle.checked_reader.proofs.SpanLaws.{state-spanned}
 use borrow.Author.Needs.{needs}
 use Rattle.checked_reader.proofs.read_checked.Statement.{statement}
 use Rattle.checked_reader.proofs.read_checked.Tie as tie
@@ -58,45 +59,50 @@ module _ (s : List ℕ) where
   wrong-only (more n) e = let z : _≡_ {A = ℕ} 0 1 = cc in absurd (omega arith)
   wrong-only (refused k p) e = let z : _≡_ {A = ℕ} 0 1 = cc in absurd (omega arith)
 
-module _ (c : tie.After-see-checked) where
+module _ (c : tie.After-check-header) where
   abbrev bytes : List ℕ
-  bytes = now (c .before .before .args .s)
+  bytes = now (c .before .before .before .before .before .before .args .s)
 
   abbrev reading : Reading
-  reading = readingOf bytes (c .see-checked .result .seen)
+  reading = c .before .before .before .before .read .result
 
-  answers : Answers bytes (verdict bytes) reading
-  answers = c .see-checked .ensures .0 .answers
+  reads : Reads bytes reading
+  reads = c .before .before .before .before .read .ensures
 
-  state : (x : Check) → c .see-checked .result .check ≡ x → toldCheck x ≡ stateOn bytes (verdict bytes)
-  state x e = ap toldCheck (sym e) ∙ c .see-checked .ensures .1 .1
+  state : (x : Check) → c .check-header .result ≡ x → toldCheck x ≡ stateOn bytes (verdict bytes)
+  state x e =
+      let span = c .before .before .area-span in
+      ap toldCheck (sym e)
+      ∙ c .check-header .ensures
+      ∙ ap (λ (f : List ℕ). stateFrom f (span .result .start)) (c .before .front .ensures .2)
+      ∙ state-spanned bytes (reading .verdict) reading (reads .judged) (span .result .start) (span .result .end) (span .ensures .0) (span .ensures .1)
+      ∙ ap (stateOn bytes) (reads .answers .told)
 
   told : (checksum : Checksum) → some checksum ≡ stateOn bytes (verdict bytes)
       → judged (toldVerdict bytes (reading .verdict) (asReading (reading .verdict) (withChecksum checksum (reading .record)))) ≡ checkedVerdict bytes
   told checksum e =
       in-state bytes (reading .verdict) reading checksum
-      ∙ ap (λ (v : Claim.Verdict Header). checkedBy v (some checksum)) (answers .told)
+      ∙ ap (λ (v : Claim.Verdict Header). checkedBy v (some checksum)) (reads .answers .told)
       ∙ ap (checkedBy (verdict bytes)) e
 
 returns : tie.Need-returns
 returns c =
-    let made = c .before in
-    let named = made .before .before in
-    let d = named .before .before .before in
+    let named = c .before .before in
+    let d = named .before .before in
     let checksum = named .check .given .0 .0 in
     let e = state d _ (named .check .given .1) in
-    subst (λ (r : Record). Promise (bytes d) (record { verdict = Judged (reading d .verdict); «record» = r }))
-    (sym (c .with-checksum .ensures ∙ ap (withChecksum checksum) (made .record-of .ensures)))
-    (promise (bytes d) (record { verdict = Judged (reading d .verdict); «record» = withChecksum checksum (reading d .record) }) (told d checksum e) (bare-still (bytes d) (reading d .verdict) (reading d) (verdict (bytes d)) checksum (answers d .told) e (answers d .unused)))
+    subst (λ (r : Record). Promise (bytes d) (record { verdict = Judged (reading d .verdict); «record» = r })) (sym (c .with-checksum .ensures))
+    (promise (bytes d) (record { verdict = Judged (reading d .verdict); «record» = withChecksum checksum (reading d .record) }) (told d checksum e)
+    (bare-still (bytes d) (reading d .verdict) (reading d) (verdict (bytes d)) checksum (reads d .answers .told) e (reads d .answers .unused)))
 
 returns-2 : tie.Need-returns-2
 returns-2 c =
-    let d = c .before .before .before .before in
+    let d = c .before .before .before in
     promise (bytes d) (record { verdict = WrongChecksum; «record» = c .blank .result })
     (wrong-only (bytes d) (verdict (bytes d)) (state d _ (c .before .enum-told .given .1))) (c .blank .ensures)
 
 pub read-checked-spec : {M : Type 1} → statement M
 read-checked-spec =
     tie.close
-    (tie.spec (λ c κs. search needs) (λ c. search needs) (λ c κs. search needs) (λ c κs. search needs) (λ c. search needs) (λ c κs. search needs)
-    returns returns-2)
+    (tie.spec (λ c κs. search needs) (λ c κs. search needs) (λ c κs. search needs) (λ c κs. search needs) (λ c. search needs) (λ c κs. search needs)
+    (λ c. search needs) (λ c κs. search needs) returns returns-2)

@@ -6,7 +6,6 @@ use denote.Ref.{now}
 use native.Mathlib.Omega.{arith}
 use lib.ListN.{take}
 use Rattle.record.specs.declared.Record.{Record}
-use Rattle.record.specs.Records.{withChecksum}
 use Rattle.address_block.specs.AddressBlock.{blockRecord}
 use Rattle.lent.specs.Buffers.{over}
 use Rattle.connection.specs.Connection.{connectionSize, connectionBytes}
@@ -55,7 +54,7 @@ returns-2 c =
     let n = length .address-length .ensures in
     let k = x .seen .caller .kind in
     put .put-connection .ensures
-    ∙ ap (λ (r : Record). over (connectionBytes (withChecksum (x .checksum) r)) (now (x .out)))
+    ∙ ap (λ (r : Record). over (connectionBytes r) (now (x .out)))
     (block-parts k _ n (from .front .ensures .2) (to .front2 .ensures .2 ∙ ap (λ (l : List ℕ). take (length .address-length .result) l) (rest .behind2 .ensures .2))
     (p .source-port-of .ensures) (q .destination-port-of .ensures)
     ∙ ap (blockRecord k) (block .behind .ensures .2)
@@ -73,7 +72,7 @@ returns-3 c =
     let x = start .args in
     let n = length .address-length .ensures in
     put .put-connection2 .ensures
-    ∙ ap (λ (r : Record). over (connectionBytes (withChecksum (x .checksum) r)) (now (x .out)))
+    ∙ ap (λ (r : Record). over (connectionBytes r) (now (x .out)))
     (caller-parts (x .seen .caller) n (from .front3 .ensures .2) (to .front4 .ensures .2)
     ∙ seen-as (x .seen .verdict) (now (x .bytes)) (x .seen .caller) (told .in-bytes .ensures) (from .before .before .if2 .left))
     ∙ roomy connectionSize (now (x .out)) _ _ (length .before .before .before .before .if1 .left)

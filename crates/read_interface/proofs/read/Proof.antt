@@ -1,11 +1,9 @@
--- `see` ensures the verdict and `tell_seen` what is told of it, where both buffers have room.
-use Prim.Native.Nat.{ℕ}
+-- The reading answers the verdict, `tell` tells its numbers, and the two buffers are written where both have room.
 use native.Mathlib.Omega.{arith}
 use denote.Ref.{now}
-use Rattle.record.specs.declared.Checksum.the-variants.{Absent}
 use Rattle.fields.specs.Exactness.{verdict}
 use Rattle.read_interface.specs.ReadInterface.{spoken}
-use Rattle.read_interface.proofs.ReadLaws.{few-numbers, short-connection, untouched, beside-plain, seen-told}
+use Rattle.read_interface.proofs.ReadLaws.{few-numbers, short-connection, untouched, written}
 use borrow.Author.Needs.{needs}
 use Rattle.read_interface.proofs.read.Statement.{statement}
 use Rattle.read_interface.proofs.read.Tie as tie
@@ -24,14 +22,16 @@ returns-2 c =
 
 returns-3 : tie.Need-returns-3
 returns-3 c =
-    let told = c .before .before .before .before in
-    let seen = told .before .before .before in
+    let put = c .before .before in
+    let connected = put .before .before .before .before in
+    let told = connected .before .before in
+    let seen = told .before .before in
     let x = seen .before .before .before .before .before .before .args in
-    let answers = seen .see .ensures .0 .answers in
-    seen-told (spoken (verdict (now (x .bytes)))) (now (x .numbers)) (now (x .connection)) (now (x .bytes)) (verdict (now (x .bytes))) (seen .see .result) Absent
-    answers (beside-plain (seen .see .result) answers) _ _ _ (omega arith, omega arith) (told .tell-seen .ensures)
+    written (verdict (now (x .bytes))) (now (x .numbers)) (now (x .connection)) (seen .see .result) (told .tell .result) (now (x .bytes)) _ _
+    (omega arith) (omega arith) (seen .see .ensures .0 .answers) (told .tell .ensures) (put .put-numbers .ensures) (connected .put-seen .ensures)
 
 pub read-spec : {M : Type 1} → statement M
 read-spec =
     tie.close
-    (tie.spec returns returns-2 (λ c κs. search needs) (λ c κs. search needs) (λ c. search needs) (λ c. search needs) returns-3)
+    (tie.spec returns returns-2 (λ c κs. search needs) (λ c κs. search needs) (λ c κs. search needs) (λ c κs. search needs) (λ c. search needs)
+    (λ c. search needs) returns-3)
