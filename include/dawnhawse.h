@@ -18,17 +18,17 @@
  *   target    x86-64 Linux, the System V calling convention, position-independent code, no instruction beyond SSE2.
  *
  *   function                     stack   time grows with
- *   dawnhawse_read                 512   version 1: at most 107 bytes; version 2: the TLVs among the bytes received, each once
- *   dawnhawse_read_checked        2048   the same; a whole header of an address kind: its TLVs again, and its bytes, each once
+ *   dawnhawse_read                 576   version 1: at most 107 bytes; version 2: the TLVs among the bytes received, each once
+ *   dawnhawse_read_checked        1792   the same; of a whole header also its TLVs, each up to three times, and its bytes, each once
  *   dawnhawse_next                  64   nothing: one TLV is looked at
  *   dawnhawse_step                  64   the TLVs from the place to the end of the area, each looked at once
  *   dawnhawse_lookup                64   the TLVs of the area, each looked at once, and those examined once more
  *   dawnhawse_write_v1            3200   nothing: at most 104 bytes are written
- *   dawnhawse_write_v2             800   the TLVs of the area, each looked at once, and the bytes written
- *   dawnhawse_write_v2_checked    2400   the same; the TLVs again, and the bytes written are looked at once
+ *   dawnhawse_write_v2            1216   the TLVs of the area, each looked at once, and the bytes written
+ *   dawnhawse_write_v2_checked    1728   the TLVs of the area, each looked at twice, and the bytes written, each looked at once
  *   dawnhawse_store                800   nothing: at most 222 bytes are written
  *   dawnhawse_load                 800   nothing: at most 222 bytes are read
- *   dawnhawse_crc32c              1200   the bytes, each looked at once
+ *   dawnhawse_crc32c              1152   the bytes, each looked at once
  *
  * Stack is a bound in bytes, the return address among them; tests/stack.c measures each function on a painted stack.
  */

@@ -1,1 +1,2 @@
 pub mod Tlvs
+pub mod Checked

@@ -6,9 +6,9 @@ use mathlib.Core.Logic.{_⊎_, inl, inr, ⊎-elim}
 use mathlib.Core.Option.{Option, some, none as nothing}
 use Prim.Native.Nat.{ℕ, suc, _+_, _-_, _≤_, _<_}
 use native.Mathlib.Omega.{arith}
-use borrow.Author.Tests.{eqb-true, eqb-false, eq-eqb, ne-eqb, le-leb, le-ltb}
+use borrow.Author.Tests.{eqb-true, eqb-false, le-leb, le-ltb}
 use lib.Dec.{eqb}
-use lib.ListN.{length, take, drop, replicate, length-append, length-replicate}
+use lib.ListN.{length, take, drop, replicate, length-append}
 use lib.Seq.{take-at, drop-at}
 use Rattle.exact.specs.Pick.{pick, pick-by}
 use Rattle.exact.specs.Network.{network}
@@ -20,7 +20,7 @@ use Rattle.tlv.specs.Listed.{tlvsOf, tlvs-of, few}
 use Rattle.tlv.specs.Heads.{head-rest}
 use Rattle.crc.specs.Crc.{checksum, stored, cleared}
 use Rattle.lookup.specs.declared.Examined.{Examined}
-use Rattle.lookup.specs.Lookup.{Finding, found, absent, Lookup, foundAt, without, toldFinding, toldLookup, firstOf, lookupIn, LooksUp}
+use Rattle.lookup.specs.Lookup.{found, absent, Lookup, foundAt, without, toldFinding, toldLookup, firstOf, lookupIn, LooksUp}
 use Rattle.lookup.specs.Laws.{first-counts}
 use Rattle.tlv_count.specs.Count.{countOf, noneTest}
 use Rattle.record.specs.declared.Checksum.{Checksum}

@@ -1,4 +1,4 @@
--- What a checked reading answers, in the claim's words.
+-- What a checked reading answers, in the claim's words and document 02's number.
 use mathlib.Core.Path.{_≡_}
 use mathlib.Core.List.{List}
 use mathlib.Core.Option.{Option, some, none}
@@ -11,7 +11,7 @@ use Rattle.answer.specs.declared.Verdict.{Verdict}
 use Rattle.answer.specs.declared.Reading.{Reading}
 use Rattle.answer.specs.Answers.{toldReading, bareUnless}
 use Rattle.checksum.specs.Checked as Checked
-use Rattle.checksum.specs.Checked.{judged, wrong-checksum}
+use Rattle.checksum.specs.Checked.{judged, refuses}
 use Rattle.checked_reader.specs.declared.Check.{Check}
 use Rattle.checked_reader.specs.declared.Check.the-variants.{State, Wrong}
 use Rattle.checked_reader.specs.declared.CheckedVerdict.{CheckedVerdict}
@@ -28,7 +28,7 @@ asReading v r = record { verdict = v; «record» = r }
 
 abbrev pub toldBy : List ℕ → CheckedVerdict → Record → Checked.CheckedVerdict
 toldBy s (Judged v) r = judged (toldReading s (asReading v r))
-toldBy s WrongChecksum r = wrong-checksum
+toldBy s WrongChecksum r = refuses 23
 
 -- the answer to the bytes s as a checked verdict on them
 abbrev pub toldChecked : List ℕ → CheckedReading → Checked.CheckedVerdict

@@ -9,7 +9,7 @@ use lib.ListN.{length, take, replicate, length-append}
 use lib.Seq.{take-append-seam}
 use borrow.Author.Tests.{le-leb, lt-ltb}
 use Rattle.exact.specs.Claim.{accepted}
-use Rattle.tlv.specs.Tlv.{Tlv, tlvBytes, written as writtenTlvs, Area, WellFormed}
+use Rattle.tlv.specs.Tlv.{Tlv, tlvBytes, written as writtenTlvs, Area}
 use Rattle.tlv.specs.Laws.{one-area, written-append, area-append}
 use Rattle.tlv.specs.Listed.{tlvsOf, tlvs-of}
 use Rattle.crc.specs.Crc.{checksum, stored}

@@ -1,22 +1,20 @@
 -- For proofs. The test of a request says what `RequestFits` says.
-use mathlib.Core.Path.{_≡_, refl, sym, ap, _∙_}
-use mathlib.Core.Bool.{Bool, true, false}
-use mathlib.Core.List.{List, [], _∷_}
+use mathlib.Core.Path.{_≡_, sym, ap, _∙_}
+use mathlib.Core.Bool.{true, false}
+use mathlib.Core.List.{List}
 use mathlib.Core.Logic.{_↔_}
-use Prim.Native.Nat.{ℕ, _+_}
+use Prim.Native.Nat.{ℕ}
 use native.Mathlib.Omega.{arith}
 use borrow.Author.Tests.{eqb-true, eq-eqb}
 use lib.Dec.{eqb}
 use lib.ListN.{length}
-use Rattle.exact.specs.Pick.{pick, both}
-use Rattle.tlv.specs.Tlv.{Tlv, WellFormed}
+use Rattle.exact.specs.Pick.{both}
 use Rattle.tlv.specs.Test.{wellFormed, well-formed-tested}
 use Rattle.tlv.specs.Listed.{tlvsOf}
 use Rattle.tlv_count.specs.Count.{countOf, noneTest}
 use Rattle.record.specs.declared.Kind.{Kind}
 use Rattle.record.specs.declared.Kind.the-variants.{Local, Unspecified, Ip4, Ip6, Unix}
 use Rattle.header.specs.Block.{HasAddresses}
-use Rattle.checksum.specs.Checksum.{valuesOf}
 use Rattle.checksum.specs.ChecksumLaws.{count-values, no-values}
 use Rattle.checked_writer.specs.Written.{RequestFits, requestTest}
 

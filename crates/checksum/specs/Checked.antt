@@ -14,10 +14,10 @@ use Rattle.header.specs.Header.{Header}
 use Rattle.header.specs.Demand.{Judges}
 use Rattle.checksum.specs.Checksum.{valuesOf, Right, Wrong}
 
--- a verdict as the plain reading gives it, or "23, without a place"
+-- a verdict as the plain reading gives it, or a number "without a place"
 pub data CheckedVerdict : Type 0 where
   judged : Verdict Header → CheckedVerdict
-  wrong-checksum : CheckedVerdict
+  refuses : (number : ℕ) → CheckedVerdict
 
 abbrev pub tlvsIn : Header → List Tlv
 tlvsIn h = tlvsOf (h .area)
@@ -33,7 +33,7 @@ inState c h = record { «record» = withChecksum c (h .«record»); version = h 
 -- "A checked reading gives 23 [..] where a whole header of an address kind has a wrong checksum, a 0x03 value that is not 4 bytes, or several 0x03
 -- TLVs; otherwise it answers as the plain reading, but with matched where such a header has a 0x03 TLV"
 pub data Checks (s : List ℕ) : CheckedVerdict → Type 0 where
-  wrong : (h : Header) (n : ℕ) → Judges (accepted h n) s → OfAddressKind h → Wrong (take n s) (tlvsIn h) → Checks s wrong-checksum
+  wrong : (h : Header) (n : ℕ) → Judges (accepted h n) s → OfAddressKind h → Wrong (take n s) (tlvsIn h) → Checks s (refuses 23)
   matched : (h : Header) (n : ℕ) → Judges (accepted h n) s → OfAddressKind h → Right (take n s) (tlvsIn h)
       → Checks s (judged (accepted (inState Matched h) n))
   absent : (h : Header) (n : ℕ) → Judges (accepted h n) s → (OfAddressKind h → valuesOf 0x03 (tlvsIn h) ≡ []) → Checks s (judged (accepted h n))

@@ -1,12 +1,12 @@
 -- For proofs. Laws of the values of a type, of TLVs with their checksum taken as zero, and of a header that ends with its TLVs.
-use mathlib.Core.Path.{_≡_, refl, sym, ap, ap₂, _∙_}
+use mathlib.Core.Path.{_≡_, refl, ap, ap₂, _∙_}
 use mathlib.Core.Bool.{Bool, true, false}
 use mathlib.Core.List.{List, [], _∷_, _++_}
 use Prim.Native.Nat.{ℕ, _+_, _-_}
 use native.Mathlib.Omega.{arith}
 use borrow.Author.Tests.{eq-eqb}
 use lib.Dec.{eqb}
-use lib.ListN.{length, take, replicate, length-append}
+use lib.ListN.{length, replicate, length-append}
 use lib.Seq.{take-at}
 use Rattle.exact.specs.Pick.{pick}
 use Rattle.tlv.specs.Tlv.{Tlv, written}

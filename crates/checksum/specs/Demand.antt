@@ -20,7 +20,7 @@ use Rattle.header.specs.Demand.{Judges}
 use Rattle.fields.specs.Exactness.{verdict, judges, judges-only, judges-stays}
 use Rattle.fields.specs.Facts.{area-empty, record-plain}
 use Rattle.checksum.specs.Checksum.{valuesOf, Right, Wrong, differs, not-four, several}
-use Rattle.checksum.specs.Checked.{CheckedVerdict, judged, wrong-checksum, tlvsIn, OfAddressKind, inState, Checks, wrong, matched, absent, unfinished, no-header}
+use Rattle.checksum.specs.Checked.{CheckedVerdict, judged, refuses, tlvsIn, OfAddressKind, inState, Checks, wrong, matched, absent, unfinished, no-header}
 use Rattle.checksum.specs.State.{stateIn, Means, no-checksum, right, wrong as is-wrong, state-means, means-one, byState, stateOn, checkedBy, checkedVerdict}
 
 -- ── the record ──
@@ -83,7 +83,7 @@ checks-only s v c = by v c
     state h n j x m = ap (byState h n) (sym (means-one (take n s) (tlvsIn h) x m)) ∙ told (accepted h n) j
 
     by : (v : CheckedVerdict) → Checks s v → v ≡ checkedVerdict s
-    by wrong-checksum (wrong h n j kind w) = state h n j none (is-wrong w)
+    by (refuses _) (wrong h n j kind w) = state h n j none (is-wrong w)
     by (judged _) (matched h n j kind r) = state h n j (some Matched) (right r)
     by (judged _) (absent h n j e) =
         ap (λ (g : Header). judged (accepted g n)) (sym (plain-absent (take n s) h (j .1)))
@@ -102,7 +102,7 @@ checks-stays s t v decided c = by v decided c
     front h n j = sym (take-append-le n s t (j .0))
 
     by : (v : CheckedVerdict) → ((n : ℕ) → v ≡ judged (more n) → ⊥) → Checks s v → Checks (s ++ t) v
-    by wrong-checksum d (wrong h n j kind w) = wrong h n (stays h n j) kind (subst (λ (f : List ℕ). Wrong f (tlvsIn h)) (front h n j) w)
+    by (refuses _) d (wrong h n j kind w) = wrong h n (stays h n j) kind (subst (λ (f : List ℕ). Wrong f (tlvsIn h)) (front h n j) w)
     by (judged _) d (matched h n j kind r) = matched h n (stays h n j) kind (subst (λ (f : List ℕ). Right f (tlvsIn h)) (front h n j) r)
     by (judged _) d (absent h n j e) = absent h n (stays h n j) e
     by (judged _) d (unfinished n j) = absurd (d n refl)

@@ -3,3 +3,4 @@ pub mod Checked
 pub mod ChecksumLaws
 pub mod State
 pub mod Demand
+pub mod Example

@@ -1,5 +1,5 @@
 -- The same as functions: the state of a header, and the answer to bytes.
-use mathlib.Core.Path.{_≡_, refl, sym, ap, _∙_}
+use mathlib.Core.Path.{_≡_, refl, ap, _∙_}
 use mathlib.Core.Bool.{Bool, true, false}
 use mathlib.Core.List.{List, [], _∷_}
 use mathlib.Core.Option.{Option, some, none}
@@ -17,7 +17,7 @@ use Rattle.record.specs.declared.Checksum.the-variants.{Absent, Matched}
 use Rattle.header.specs.Header.{Header}
 use Rattle.fields.specs.Exactness.{verdict}
 use Rattle.checksum.specs.Checksum.{valuesOf, checksumOf, Right, Wrong, differs, not-four, several}
-use Rattle.checksum.specs.Checked.{CheckedVerdict, judged, wrong-checksum, tlvsIn, inState}
+use Rattle.checksum.specs.Checked.{CheckedVerdict, judged, refuses, tlvsIn, inState}
 
 -- by the values of the 0x03 TLVs, and the checksum: the state, or none where the checksum is wrong
 abbrev pub stateBy : List (List ℕ) → List ℕ → Option Checksum
@@ -82,7 +82,7 @@ module _ (f : List ℕ) (tlvs : List Tlv) where
 -- what a checked reading answers, by the verdict on the bytes
 abbrev pub byState : Header → ℕ → Option Checksum → CheckedVerdict
 byState h n (some c) = judged (accepted (inState c h) n)
-byState h n none = wrong-checksum
+byState h n none = refuses 23
 
 -- the state of the header that the bytes begin with; absent where there is none
 abbrev pub stateOn : List ℕ → Verdict Header → Option Checksum

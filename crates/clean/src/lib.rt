@@ -91,9 +91,5 @@ pub fn plain(r: Record) -> bool
     ensures { λ b. ⌜ (b ≡ plainTest r) × (b ≡ true → Plain r) × (Plain r → b ≡ true) ⌝ }
 {
     let checksum = r.checksum;
-    if clean(r) {
-        is_absent(checksum)
-    } else {
-        false
-    }
+    if clean(r) { is_absent(checksum) } else { false }
 }

@@ -30,9 +30,8 @@ use Rattle.lent.specs.Buffers.{over, toldIn}
 use Rattle.lent.specs.BufferLaws.{roomy, over-over, over-length}
 use Rattle.numbers.specs.Numbers.{numbersSize}
 use Rattle.connection.specs.Connection.{connectionSize, connectionBytes}
-use Rattle.checksum.specs.Checked.{inState}
 use Rattle.checksum.specs.State.{stateIn, stateFrom, byState, stateOn, checkedBy, checkedVerdict}
-use Rattle.read_interface.specs.ReadInterface.{Spoken, nobody, spoken, spokenChecked, roomFor, ReadTold}
+use Rattle.read_interface.specs.ReadInterface.{Spoken, spoken, spokenChecked, roomFor, ReadTold}
 use Rattle.read_interface.proofs.ReadLaws.{told-as}
 
 -- the bytes of a connection before its state

@@ -12,7 +12,7 @@ use Rattle.record.specs.declared.Kind.the-variants.{Unspecified}
 use Rattle.record.specs.declared.Record.{Record}
 use Rattle.record.specs.Records.{bare}
 use Rattle.header.specs.Header.{Header}
-use Rattle.checksum.specs.Checked.{CheckedVerdict, judged, wrong-checksum}
+use Rattle.checksum.specs.Checked.{CheckedVerdict, judged, refuses}
 use Rattle.lent.specs.Buffers.{over}
 use Rattle.numbers.specs.Numbers.{numbersSize}
 use Rattle.connection.specs.Connection.{connectionSize, connectionBytes}
@@ -38,7 +38,7 @@ spoken (refused k p) = nobody k p
 -- "A checked reading gives 23, without a place" (document 02, K6)
 abbrev pub spokenChecked : CheckedVerdict → Spoken
 spokenChecked (judged v) = spoken v
-spokenChecked wrong-checksum = nobody 23 0
+spokenChecked (refuses k) = nobody k 0
 
 -- "the output is shorter than what must be written": room for the numbers and the connection
 abbrev pub roomFor : List ℕ → List ℕ → Bool

@@ -56,12 +56,7 @@ pub fn write_v2(connection: &[u8], area: &[u8], out: &mut [u8], numbers: &mut [u
 }
 
 // The same with a checksum, last in the area (document 02, K6).
-pub fn write_v2_checked(
-    connection: &[u8],
-    area: &[u8],
-    out: &mut [u8],
-    numbers: &mut [u64],
-) -> u32
+pub fn write_v2_checked(connection: &[u8], area: &[u8], out: &mut [u8], numbers: &mut [u64]) -> u32
     ensures { λ r. ⌜ WritesAsked (λ (c : Record). checkedAnswer c (now (area .entry))) (λ (c : Record). writtenChecked c (now (area .entry))) (now (connection .entry)) (now (out .entry)) (now (numbers .entry)) r (now (out .exit)) (now (numbers .exit)) ⌝ }
 {
     write_asked(connection, area, true, out, numbers)

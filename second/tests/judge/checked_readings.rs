@@ -21,8 +21,8 @@ fn matched_with_area(length: usize) -> Result<Verdict, u8> {
     Ok(accepted(matched(&caller()), 2, 28 + length, area))
 }
 
-/// A header of an AWS load balancer, with its endpoint (0xEA) and padding (0x04),
-/// from the tests of go-proxyproto.
+/// A header of an AWS load balancer, with its endpoint (0xEA) and padding (0x04):
+/// the checksum is not of this program's making.
 #[test]
 fn a_header_from_the_field() {
     let area = [

@@ -4,7 +4,6 @@ use mathlib.Core.List.{List}
 use Prim.Native.Nat.{ℕ, _+_}
 use native.Mathlib.Omega.{arith}
 use denote.Ref.{now}
-use Rattle.record.specs.Kinds.{blockLength}
 use Rattle.address_block.specs.AddressBlock.{addressBlock}
 use Rattle.lent.specs.Placed.{placed}
 use Rattle.fields.specs.BlockFields.{block-small}

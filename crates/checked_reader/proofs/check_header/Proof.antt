@@ -1,7 +1,7 @@
 -- The first 0x03 TLV that the lookup finds says what the checksum does; where it finds none, there is none or TLVs do not fill the area.
 use mathlib.Core.Path.{_≡_, sym, ap, _∙_}
 use mathlib.Core.List.{List, _++_}
-use mathlib.Core.Option.{Option, some}
+use mathlib.Core.Option.{some}
 use Prim.Native.Nat.{ℕ}
 use native.Mathlib.Omega.{arith}
 use denote.Ref.{now}
@@ -11,7 +11,6 @@ use Rattle.tlv.specs.Test.{wellFormed}
 use Rattle.tlv.specs.Listed.{tlvsOf}
 use Rattle.lookup.specs.declared.Answer.{Answer}
 use Rattle.lookup.specs.Lookup.{found, toldFinding}
-use Rattle.record.specs.declared.Checksum.{Checksum}
 use Rattle.record.specs.declared.Checksum.the-variants.{Absent}
 use Rattle.checksum.specs.State.{stateIn, stateFrom}
 use Rattle.checked_reader.specs.First.{LastPart}

@@ -1,7 +1,5 @@
 -- The four bytes beside the checksum of the bytes with them taken as zero.
 use mathlib.Core.Path.{ap, ap₂, _∙_}
-use mathlib.Core.List.{List}
-use Prim.Native.Nat.{ℕ}
 use lib.ListN.{take}
 use Rattle.lent.specs.Same.{same}
 use Rattle.crc.specs.Crc.{stored}

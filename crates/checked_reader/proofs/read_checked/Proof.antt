@@ -1,7 +1,7 @@
 -- `read` ensures the verdict and `check_header` the state; the answer is the one that is claimed.
 use mathlib.Core.Path.{_≡_, refl, sym, ap, _∙_, subst}
 use mathlib.Core.List.{List}
-use mathlib.Core.Option.{Option, some, none}
+use mathlib.Core.Option.{some, none}
 use Prim.Native.Nat.{ℕ}
 use native.Mathlib.Omega.{arith}
 use denote.Ref.{now}
@@ -19,8 +19,7 @@ use Rattle.answer.specs.declared.Verdict.the-variants.{Accepted, More, Refused}
 use Rattle.answer.specs.declared.Reading.{Reading}
 use Rattle.answer.specs.Answers.{toldVerdict, bareUnless}
 use Rattle.reader.specs.Read.{Reads}
-use Rattle.checksum.specs.Checked as Checked
-use Rattle.checksum.specs.Checked.{judged, wrong-checksum, Checks}
+use Rattle.checksum.specs.Checked.{judged, refuses, Checks}
 use Rattle.checksum.specs.State.{stateFrom, stateOn, checkedBy, checkedVerdict}
 use Rattle.checksum.specs.Demand.{checks}
 use Rattle.checked_reader.specs.declared.Check.{Check}
@@ -54,7 +53,7 @@ module _ (s : List ℕ) where
   bare-still (More n) r v c e f u = bare-absent (r .record) c (f ∙ ap (stateOn s) (sym e)) u
   bare-still (Refused k p) r v c e f u = bare-absent (r .record) c (f ∙ ap (stateOn s) (sym e)) u
 
-  wrong-only : (v : Claim.Verdict Header) → none ≡ stateOn s v → wrong-checksum ≡ checkedBy v (stateOn s v)
+  wrong-only : (v : Claim.Verdict Header) → none ≡ stateOn s v → refuses 23 ≡ checkedBy v (stateOn s v)
   wrong-only (accepted h n) e = ap (checkedBy (accepted h n)) e
   wrong-only (more n) e = let z : _≡_ {A = ℕ} 0 1 = cc in absurd (omega arith)
   wrong-only (refused k p) e = let z : _≡_ {A = ℕ} 0 1 = cc in absurd (omega arith)

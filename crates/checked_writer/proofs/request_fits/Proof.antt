@@ -1,5 +1,4 @@
 -- Each arm answers as `requestTest` does at its kind.
-use mathlib.Core.Path.{_∙_}
 use borrow.Author.Needs.{needs}
 use Rattle.checked_writer.proofs.request_fits.Statement.{statement}
 use Rattle.checked_writer.proofs.request_fits.Tie as tie

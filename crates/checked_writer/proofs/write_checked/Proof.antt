@@ -6,7 +6,7 @@ use native.Mathlib.Omega.{arith}
 use borrow.Author.Needs.{needs}
 use borrow.Author.Tests.{not-true, not-false}
 use denote.Ref.{now}
-use lib.ListN.{length, drop, replicate}
+use lib.ListN.{length, drop}
 use Rattle.record.specs.declared.Record.{Record}
 use Rattle.record.specs.Kinds.{blockLength}
 use Rattle.record.specs.Records.{Sized}
@@ -14,7 +14,7 @@ use Rattle.record.proofs.InMemory.{in-memory}
 use Rattle.crc.specs.Crc.{checksum, stored}
 use Rattle.answer.specs.Answers.{WriteAnswer, wrote, toldWritten, outputAfter}
 use Rattle.answer.specs.OutputLaws.{output-refused, is-wrote, output-written}
-use Rattle.block_writer.specs.Written.{blockPlaced, writtenBlock}
+use Rattle.block_writer.specs.Written.{writtenBlock}
 use Rattle.checked_writer.specs.Written.{withTlv, checksumFor, writtenChecked, CarriedChecked, checkedAnswer}
 use Rattle.checked_writer.specs.Demand.{Means, answer-means, checked-accepted, ReadsBack, reads-back}
 use Rattle.checked_writer.proofs.PutLaws.{tlv-length, header-length, zeros-front, with-sum}

@@ -1,5 +1,5 @@
 -- What is counted, and whether there is anything to count, are the test's two parts.
-use mathlib.Core.Path.{_≡_, refl, sym, ap, _∙_, subst}
+use mathlib.Core.Path.{_≡_, refl, sym, ap, _∙_}
 use mathlib.Core.Bool.{Bool, true, false, _&&_}
 use mathlib.Core.List.{List}
 use Prim.Native.Nat.{ℕ}
@@ -11,7 +11,7 @@ use Rattle.tlv.specs.Test.{wellFormed, well-formed-tested}
 use Rattle.tlv.specs.Listed.{tlvsOf, tlvs-of}
 use Rattle.tlv_count.specs.declared.Count.{Count}
 use Rattle.tlv_count.specs.declared.Count.the-variants.{Tlvs, IllFormed}
-use Rattle.tlv_count.specs.Count.{countOf, counted, toldCount, Counts, noneTest}
+use Rattle.tlv_count.specs.Count.{countOf, Counts, noneTest}
 use borrow.Author.Needs.{needs}
 use Rattle.tlv_count.proofs.has_none.Statement.{statement}
 use Rattle.tlv_count.proofs.has_none.Tie as tie
