@@ -1,5 +1,5 @@
 -- For proofs. What a writer leaves in the output, by what it answered.
-use mathlib.Core.Path.{_≡_, refl, sym, ap, _∙_}
+use mathlib.Core.Path.{_≡_, refl, sym, ap, _∙_, subst}
 use mathlib.Core.Bool.{Bool, true, false}
 use mathlib.Core.List.{List, _++_}
 use Prim.Native.Nat.{ℕ}
@@ -37,3 +37,15 @@ pub written-front : (text before after : List ℕ) (answer : WriteAnswer) (n : �
     → after ≡ outputAfter answer text before → take n after ≡ text
 written-front text before after answer n is size output =
     ap (take n) (output ∙ ap (λ (a : WriteAnswer). outputAfter a text before) is) ∙ take-at text (drop n before) n size
+
+-- ── a writer's promise ──
+-- its answer and its output are as defined, and so the answer means what it should and what was written reads back
+abbrev pub Promised : (answer : WriteAnswer) (text before : List ℕ) (Means : WriteAnswer → Type 0) (Back : WriteAnswer → List ℕ → Type 0) → Written → List ℕ → Type 0
+Promised answer text before Means Back w after =
+    (toldWritten w ≡ answer) × (after ≡ outputAfter answer text before) × Means (toldWritten w) × Back (toldWritten w) after
+
+pub promised : (answer : WriteAnswer) (text before : List ℕ) (Means : WriteAnswer → Type 0) (Back : WriteAnswer → List ℕ → Type 0) → Means answer
+    → ((after : List ℕ) → after ≡ outputAfter answer text before → Back answer after) → (w : Written) → toldWritten w ≡ answer
+    → (after : List ℕ) → after ≡ outputAfter answer text before → Promised answer text before Means Back w after
+promised answer text before Means Back means back w e after o =
+    (e, o, subst Means (sym e) means, subst (λ (a : WriteAnswer). Back a after) (sym e) (back after o))

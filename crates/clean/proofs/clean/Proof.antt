@@ -1,12 +1,12 @@
 -- `clean` puts together what its tests ensure, in the order of `cleanTest`; of a record in memory that test says what `Clean` says.
 use Prim.Native.Nat.{ℕ}
 use mathlib.Core.Path.{_≡_, sym, ap, _∙_}
-use mathlib.Core.Bool.{Bool, true}
+use mathlib.Core.Bool.{Bool, true, _&&_}
 use borrow.Author.Needs.{needs}
 use lib.ListN.{drop}
 use Rattle.record.specs.declared.Record.{Record}
 use Rattle.record.specs.Records.{Clean}
-use Rattle.clean.specs.Unused.{zeros, cleanAddress, cleanTest}
+use Rattle.clean.specs.Unused.{zeros, cleanAddress, cleanState, cleanTest}
 use Rattle.clean.specs.UnusedLaws.{clean-test}
 use Rattle.record.proofs.InMemory.{in-memory}
 use Rattle.clean.proofs.clean.Statement.{statement}
@@ -32,38 +32,35 @@ module _ (c : tie.After-zero-from2) where
       ap (λ (n : ℕ). zeros (drop n (the-record (c .before .before) .destination))) (sym (c .before .before .before .address-length .ensures))
       ∙ sym (c .zero-from2 .ensures)
 
+three-hold : (a b c d e : Bool) → a ≡ true → b ≡ true → c ≡ true → a && b && c && d && e ≡ d && e
+three-hold a b c d e x y z = rw (x, y, z)
+
+-- behind the tests of addresses and ports the state decides
+module _ (c : tie.After-clean-port2) where
+  abbrev addresses : tie.After-zero-from2
+  addresses = c .before .before .before .before
+
+  rest : cleanTest (the-record (addresses .before .before))
+      ≡ c .clean-port2 .result && cleanState (the-record (addresses .before .before) .kind) (the-record (addresses .before .before) .checksum)
+  rest =
+      three-hold _ _ _ _ _ (first (addresses .before .before) ∙ addresses .before .if1 .taken) (second addresses ∙ c .before .before .before .if2 .taken)
+      (sym (c .before .before .clean-port .ensures) ∙ c .before .if3 .taken)
+      ∙ ap (λ (b : Bool). b && cleanState (the-record (addresses .before .before) .kind) (the-record (addresses .before .before) .checksum)) (sym (c .clean-port2 .ensures))
+
 returns : tie.Need-returns
 returns c =
     let ports = c .before .before in
-    let d = ports .before .before .before .before in
+    let d = addresses ports in
     promise (d .before .before .before .before .before .before)
-    (rw (
-      first (d .before .before),
-      d .before .if1 .taken,
-      second d,
-      ports .before .before .before .if2 .taken,
-      ← (ports .before .before .clean-port .ensures),
-      ports .before .if3 .taken,
-      ← (ports .clean-port2 .ensures),
-      c .before .if4 .taken,
-    )
-    (c .clean-state .ensures))
+    (c .clean-state .ensures
+    ∙ sym (rest ports ∙ ap (λ (b : Bool). b && cleanState (the-record (d .before .before) .kind) (the-record (d .before .before) .checksum)) (c .before .if4 .taken)))
 
 returns-2 : tie.Need-returns-2
 returns-2 c =
     let ports = c .before in
-    let d = ports .before .before .before .before in
+    let d = addresses ports in
     promise (d .before .before .before .before .before .before)
-    (rw (
-      first (d .before .before),
-      d .before .if1 .taken,
-      second d,
-      ports .before .before .before .if2 .taken,
-      ← (ports .before .before .clean-port .ensures),
-      ports .before .if3 .taken,
-      ← (ports .clean-port2 .ensures),
-      c .if4 .left,
-    ))
+    (sym (rest ports ∙ ap (λ (b : Bool). b && cleanState (the-record (d .before .before) .kind) (the-record (d .before .before) .checksum)) (c .if4 .left)))
 
 returns-3 : tie.Need-returns-3
 returns-3 c =

@@ -1,5 +1,5 @@
 -- What is written is what `check` answers. A refusal leaves the output as it was; else the draft's text is put at its front.
-use mathlib.Core.Path.{_≡_, sym, ap, _∙_, subst}
+use mathlib.Core.Path.{_≡_, ap, _∙_}
 use mathlib.Core.List.{List, []}
 use Prim.Native.Nat.{ℕ, _≤_}
 use native.Mathlib.Omega.{arith}
@@ -14,8 +14,8 @@ use Rattle.lent.specs.PlacedLaws.{placed-start}
 use Rattle.record.proofs.InMemory.{in-memory}
 use Rattle.draft.specs.Drafts.{draftOf}
 use Rattle.draft.specs.DraftLaws.{appended-draft, draft-size, draft-says, draft-room}
-use Rattle.answer.specs.Answers.{WriteAnswer, toldWritten, outputAfter}
-use Rattle.answer.specs.OutputLaws.{output-refused, is-wrote, output-written}
+use Rattle.answer.specs.Answers.{WriteAnswer, outputAfter}
+use Rattle.answer.specs.OutputLaws.{output-refused, is-wrote, output-written, Promised, promised}
 use Rattle.line_text.specs.LineText.{writtenLine}
 use Rattle.line_writer.specs.Written.{lineAnswer}
 use Rattle.line_writer.specs.LineLaws.{written-fits}
@@ -59,15 +59,11 @@ module _ (c : tie.After-check) where
 
   -- an output as defined is what is promised, since the record is one in memory
   promise : (after : List ℕ) → after ≡ outputAfter answer (writtenLine (the-record drafted)) out
-      → (toldWritten (c .check .result) ≡ answer) × (after ≡ outputAfter answer (writtenLine (the-record drafted)) out)
-      × Means (the-record drafted) (length out) (toldWritten (c .check .result)) × ReadsBack (the-record drafted) (toldWritten (c .check .result)) after
-  promise after o =
-      let e = c .check .ensures in (
-        e,
-        o,
-        subst (Means (the-record drafted) (length out)) (sym e) (answer-means (the-record drafted) (length out) (sized drafted)),
-        subst (λ (a : WriteAnswer). ReadsBack (the-record drafted) a after) (sym e) (reads-back (the-record drafted) out after (sized drafted) o),
-      )
+      → Promised answer (writtenLine (the-record drafted)) out (Means (the-record drafted) (length out)) (ReadsBack (the-record drafted)) (c .check .result) after
+  promise =
+      promised answer (writtenLine (the-record drafted)) out (Means (the-record drafted) (length out)) (ReadsBack (the-record drafted))
+      (answer-means (the-record drafted) (length out) (sized drafted)) (λ after. reads-back (the-record drafted) out after (sized drafted)) (c .check .result)
+      (c .check .ensures)
 
 check-requires : tie.Need-check-requires
 check-requires c κs = size (c .before)

@@ -1,6 +1,6 @@
 -- What is written is what `check` answers. A refusal leaves the output as it was; else the address block stands behind the mark, the version and the code.
 use Prim.Native.Nat.{ℕ, _+_, _≤_}
-use mathlib.Core.Path.{_≡_, sym, ap, _∙_, subst}
+use mathlib.Core.Path.{_≡_, ap, _∙_}
 use mathlib.Core.List.{List, [], _∷_, _++_}
 use native.Mathlib.Omega.{arith}
 use borrow.Author.Needs.{needs}
@@ -15,8 +15,8 @@ use Rattle.address_block.specs.AddressBlockLaws.{block-size}
 use Rattle.lent.specs.Placed.{placed}
 use Rattle.lent.specs.PlacedLaws.{placed-then, placed-start}
 use Rattle.record.proofs.InMemory.{in-memory}
-use Rattle.answer.specs.Answers.{WriteAnswer, toldWritten, outputAfter}
-use Rattle.answer.specs.OutputLaws.{output-refused, is-wrote, output-written}
+use Rattle.answer.specs.Answers.{WriteAnswer, outputAfter}
+use Rattle.answer.specs.OutputLaws.{output-refused, is-wrote, output-written, Promised, promised}
 use Rattle.kind_code.specs.Codes.{codeOf}
 use Rattle.stored_form.specs.Stored.{mark, formVersion, stored, storeAnswer}
 use Rattle.stored_form.specs.Meaning.{Means, LoadsBack}
@@ -55,15 +55,10 @@ module _ (c : tie.After-check) where
 
   -- an output as defined is what is promised, since the record is one in memory
   promise : (after : List ℕ) → after ≡ outputAfter answer (stored the-record) out
-      → (toldWritten (c .check .result) ≡ answer) × (after ≡ outputAfter answer (stored the-record) out)
-      × Means the-record (length out) (toldWritten (c .check .result)) × LoadsBack the-record (toldWritten (c .check .result)) after
-  promise after o =
-      let e = c .check .ensures in (
-        e,
-        o,
-        subst (Means the-record (length out)) (sym e) (answer-means the-record (length out) sized),
-        subst (λ (a : WriteAnswer). LoadsBack the-record a after) (sym e) (loads-back the-record out after sized o),
-      )
+      → Promised answer (stored the-record) out (Means the-record (length out)) (LoadsBack the-record) (c .check .result) after
+  promise =
+      promised answer (stored the-record) out (Means the-record (length out)) (LoadsBack the-record) (answer-means the-record (length out) sized)
+      (λ after. loads-back the-record out after sized) (c .check .result) (c .check .ensures)
 
 returns : tie.Need-returns
 returns c =
