@@ -162,7 +162,7 @@ extern "C" {
 #define DAWNHAWSE_UNIX_DATAGRAM 0x32
 
 /* Checksum states. Of the writers only dawnhawse_write_v2_checked takes matched; for the others set it to absent. */
-#define DAWNHAWSE_CHECKSUM_ABSENT 0  /* no checksum was compared: the header has none, or the reading is not a checked one */
+#define DAWNHAWSE_CHECKSUM_ABSENT 0  /* no header was accepted, or it has no checksum, or the reading was not a checked one */
 #define DAWNHAWSE_CHECKSUM_MATCHED 1 /* the header has one checksum, and it is right */
 
 /* ---- Functions ---- */

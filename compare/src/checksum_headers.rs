@@ -62,8 +62,8 @@ pub fn right() -> Vec<Vec<u8>> {
     FAMILIES.into_iter().flat_map(of_kind).collect()
 }
 
-/// Headers of load balancers in the field, whose checksums neither program made: the second is a LOCAL one, and its checksum is not looked at. The third's
-/// value is what the division gives if it is not taken as zero.
+/// Two headers of load balancers in the field, whose checksums neither program made: the second is a LOCAL one, and its checksum is not looked at. A third is
+/// made here: its value is what the division gives if it is not taken as zero.
 pub fn known() -> Vec<Vec<u8>> {
     let addresses = [172, 31, 7, 113, 172, 31, 10, 31, 0xC8, 0xF2, 0, 80];
     let endpoint = [&addresses[..], &[3, 0, 4, 0xE8, 0xD6, 0x89, 0x2D], &[0xEA, 0, 23, 1], b"vpce-08d2bf15fac5001c9", &[4, 0, 36], &[0; 36]].concat();

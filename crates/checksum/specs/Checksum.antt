@@ -14,11 +14,13 @@ valuesOf type [] = []
 valuesOf type (t ∷ rest) = pick (eqb (t .type) type) (t .value ∷ valuesOf type rest) (valuesOf type rest)
 
 -- "the four value bytes of TLV 0x03 taken as zero"
+abbrev pub zeroedTlv : Tlv → Tlv
+zeroedTlv t =
+    record { type = t .type; value = pick (eqb (t .type) 0x03) (replicate (length (t .value)) 0) (t .value) }
+
 abbrev pub zeroed : List Tlv → List Tlv
 zeroed [] = []
-zeroed (t ∷ rest) =
-    record { type = t .type; value = pick (eqb (t .type) 0x03) (replicate (length (t .value)) 0) (t .value) }
-    ∷ zeroed rest
+zeroed (t ∷ rest) = zeroedTlv t ∷ zeroed rest
 
 -- "CRC32C [..] over the whole header, the four value bytes of TLV 0x03 taken as zero, the result stored in network order": of the header f, whose
 -- last bytes are these TLVs

@@ -4,7 +4,7 @@ use mathlib.Core.Bool.{Bool, true, false}
 use mathlib.Core.List.{List, [], _∷_, _++_}
 use Prim.Native.Nat.{ℕ, _+_, _-_}
 use native.Mathlib.Omega.{arith}
-use borrow.Author.Tests.{eq-eqb}
+use borrow.Author.Tests.{eqb-false, eq-eqb, ne-eqb}
 use lib.Dec.{eqb}
 use lib.ListN.{length, replicate, length-append}
 use lib.Seq.{take-at}
@@ -12,7 +12,7 @@ use Rattle.exact.specs.Pick.{pick}
 use Rattle.tlv.specs.Tlv.{Tlv, written}
 use Rattle.crc.specs.Crc.{checksum, stored}
 use Rattle.tlv_count.specs.Count.{countOf}
-use Rattle.checksum.specs.Checksum.{valuesOf, zeroed, checksumOf}
+use Rattle.checksum.specs.Checksum.{valuesOf, zeroedTlv, zeroed, checksumOf}
 
 pub values-append : (type : ℕ) (a b : List Tlv) → valuesOf type (a ++ b) ≡ valuesOf type a ++ valuesOf type b
 values-append type [] b = refl
@@ -41,28 +41,33 @@ values-first t rest type e = rw (eq-eqb (t .type) type e)
 
 zeroed-append : (a b : List Tlv) → zeroed (a ++ b) ≡ zeroed a ++ zeroed b
 zeroed-append [] b = refl
-zeroed-append (t ∷ a) b =
-    ap (λ (l : List Tlv). record { type = t .type; value = pick (eqb (t .type) 0x03) (replicate (length (t .value)) 0) (t .value) } ∷ l)
-    (zeroed-append a b)
+zeroed-append (t ∷ a) b = ap (λ (l : List Tlv). zeroedTlv t ∷ l) (zeroed-append a b)
 
--- where no checksum is among them, nothing is
-pub zeroed-none : (tlvs : List Tlv) → valuesOf 0x03 tlvs ≡ [] → zeroed tlvs ≡ tlvs
+-- the value of a checksum is zeros
+sum-zeroed : (t : Tlv) → t .type ≡ 0x03 → zeroedTlv t ≡ record { type = t .type; value = replicate (length (t .value)) 0 }
+sum-zeroed t is = rw (eq-eqb (t .type) 0x03 is)
+
+-- any other stays
+other-kept : (t : Tlv) → (t .type ≡ 0x03 → ⊥) → zeroedTlv t ≡ t
+other-kept t not = rw (ne-eqb (t .type) 0x03 not)
+
+-- where no checksum is among them, nothing is taken as zero
+zeroed-none : (tlvs : List Tlv) → valuesOf 0x03 tlvs ≡ [] → zeroed tlvs ≡ tlvs
 zeroed-none [] e = refl
-zeroed-none (t ∷ rest) e = by (eqb (t .type) 0x03) (zeroed-none rest) e
+zeroed-none (t ∷ rest) e = by (eqb (t .type) 0x03) refl (zeroed-none rest) e
   where
-    by : (c : Bool) → (valuesOf 0x03 rest ≡ [] → zeroed rest ≡ rest) → pick c (t .value ∷ valuesOf 0x03 rest) (valuesOf 0x03 rest) ≡ []
-        → record { type = t .type; value = pick c (replicate (length (t .value)) 0) (t .value) } ∷ zeroed rest ≡ t ∷ rest
-    by true again e = let n = ap length e in absurd (omega arith)
-    by false again e = ap (λ (l : List Tlv). t ∷ l) (again e)
+    by : (c : Bool) → eqb (t .type) 0x03 ≡ c → (valuesOf 0x03 rest ≡ [] → zeroed rest ≡ rest)
+        → pick c (t .value ∷ valuesOf 0x03 rest) (valuesOf 0x03 rest) ≡ [] → zeroedTlv t ∷ zeroed rest ≡ t ∷ rest
+    by true is again e = let n = ap length e in absurd (omega arith)
+    by false is again e = ap₂ (λ (x : Tlv) (l : List Tlv). x ∷ l) (other-kept t (eqb-false (t .type) 0x03 is)) (again e)
 
--- one checksum among others, taken as zero
+-- one checksum among others
 pub zeroed-one : (a b : List Tlv) (t : Tlv) → valuesOf 0x03 a ≡ [] → valuesOf 0x03 b ≡ [] → t .type ≡ 0x03
     → zeroed (a ++ t ∷ b) ≡ a ++ record { type = t .type; value = replicate (length (t .value)) 0 } ∷ b
 zeroed-one a b t none-before none-after is =
     zeroed-append a (t ∷ b)
-    ∙ ap₂ (λ (x y : List Tlv). x ++ record { type = t .type; value = pick (eqb (t .type) 0x03) (replicate (length (t .value)) 0) (t .value) } ∷ y)
-    (zeroed-none a none-before) (zeroed-none b none-after)
-    ∙ ap (λ (c : Bool). a ++ record { type = t .type; value = pick c (replicate (length (t .value)) 0) (t .value) } ∷ b) (eq-eqb (t .type) 0x03 is)
+    ∙ ap₂ (λ (x y : List Tlv). x ++ zeroedTlv t ∷ y) (zeroed-none a none-before) (zeroed-none b none-after)
+    ∙ ap (λ (u : Tlv). a ++ u ∷ b) (sum-zeroed t is)
 
 -- the checksum of a header by its parts
 pub checksum-parts : (body : List ℕ) (tlvs : List Tlv) → checksumOf (body ++ written tlvs) tlvs ≡ stored (checksum (body ++ written (zeroed tlvs)))

@@ -1,4 +1,4 @@
--- The bytes of a checksum state in C connections: 0 absent, 1 matched (document 02, K6).
+-- The bytes of a checksum state in C connections: 0 absent, 1 matched (include/dawnhawse.h).
 use mathlib.Core.Option.{Option, some, none}
 use Prim.Native.Nat.{ℕ}
 use lib.Dec.{eqb}

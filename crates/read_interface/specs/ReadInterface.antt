@@ -1,4 +1,4 @@
--- What `dawnhawse_read` and `dawnhawse_read_checked` answer and leave in the buffers that are lent to it: document 01's answers as numbers and bytes.
+-- What `dawnhawse_read` and `dawnhawse_read_checked` answer and leave in the buffers that are lent to them: document 01's answers as numbers and bytes.
 use mathlib.Core.Path.{_≡_}
 use mathlib.Core.Bool.{Bool, false}
 use mathlib.Core.List.{List, [], _∷_}
@@ -44,7 +44,7 @@ spokenChecked (refuses k) = nobody k 0
 abbrev pub roomFor : List ℕ → List ℕ → Bool
 roomFor numbers connection = pick (leb numbersSize (length numbers)) (leb connectionSize (length connection)) false
 
--- the answer of `dawnhawse_read`, and what it leaves in the two buffers: with too little room 14, and both as they were
+-- the answer, and what is left in the two buffers: with too little room 14, and both as they were
 abbrev pub readAnswer : Spoken → List ℕ → List ℕ → ℕ
 readAnswer v numbers connection = pick (roomFor numbers connection) (v .answer) 14
 

@@ -21,7 +21,7 @@ returns : tie.Need-returns
 returns c =
     let start = c .before .before .before in
     let x = start .args in
-    sym (odd-size (now (x .header)) (now (x .area)) (x .start) (x .size) (start .pre) (c .if1 .taken))
+    sym (odd-size (now (x .header)) (now (x .area)) (x .start) (x .size) (start .pre) (λ four. omega (arith, c .if1 .taken)))
 
 add-behind : tie.Need-add-behind
 add-behind c =
@@ -68,7 +68,7 @@ module _ (c : tie.After-is-right) where
       let x = start d .args in
       ap (λ (y : Bool). pick y (some Matched) none) (sym e ∙ c .is-right .ensures)
       ∙ sym
-      (one-value (now (x .header)) (now (x .area)) (x .start) (x .size) (start d .pre) (d .before .before .if1 .left)
+      (one-value (now (x .header)) (now (x .area)) (x .start) (x .size) (start d .pre) (omega (arith, d .before .before .if1 .left))
       (tested d ∙ not-false (d .has-none .result) (c .before .if2 .left)) _ refl)
 
 returns-3 : tie.Need-returns-3
