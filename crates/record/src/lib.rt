@@ -62,12 +62,12 @@ pub fn with_checksum(record: Record, checksum: Checksum) -> Record
     ensures { λ r. ⌜ r ≡ withChecksum checksum «record» ⌝ }
 {
     let kind = record.kind;
-    let source = record.source;
-    let destination = record.destination;
+    let from = record.source;
+    let to = record.destination;
     record_with(
         kind,
-        source,
-        destination,
+        from,
+        to,
         record.source_port,
         record.destination_port,
         checksum,
