@@ -16,7 +16,7 @@ use Rattle.crc.specs.Crc.{checksum, stored}
 use Rattle.record.specs.declared.Checksum.the-variants.{Absent, Matched}
 use Rattle.record.specs.declared.Record.{Record}
 use Rattle.record.specs.Records.{Clean, Sized, withChecksum}
-use Rattle.record.specs.RecordLaws.{absent-fits}
+use Rattle.record.specs.RecordLaws.{sized-with, plain-without}
 use Rattle.clean.specs.Unused.{cleanTest}
 use Rattle.clean.specs.UnusedLaws.{clean-test}
 use Rattle.address_block.specs.AddressBlock.{addressBlock}
@@ -98,24 +98,8 @@ module _ (r : Record) (area : List ℕ) (w : CarriedChecked r area) where
   carried : CarriedByBlock plainly (checkedArea r area)
   carried =
       record {
-        sized = record {
-          source = w .sized .source;
-          destination = w .sized .destination;
-          source-bytes = w .sized .source-bytes;
-          destination-bytes = w .sized .destination-bytes;
-          source-port = w .sized .source-port;
-          destination-port = w .sized .destination-port;
-        };
-        plain = record {
-          clean = record {
-            source = w .clean .source;
-            destination = w .clean .destination;
-            «source_port» = w .clean .«source_port»;
-            «destination_port» = w .clean .«destination_port»;
-            checksum = absent-fits (r .kind);
-          };
-          absent = refl;
-        };
+        sized = sized-with Absent r (w .sized);
+        plain = plain-without r (w .clean);
         tlvs = (tlvs ++ sum ∷ [], filled);
         beside = λ not. absurd (not (w .fits .has));
         small = w .small;
