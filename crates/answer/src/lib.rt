@@ -37,13 +37,14 @@ pub struct Reading {
     pub record: Record,
 }
 
-// Why nothing is written: document 01's numbers 10 to 14.
+// Why nothing is written: document 01's numbers 10 to 14, and document 02's 24.
 pub enum Fault {
     Form,
     Unused,
     Area,
     Size,
     Room,
+    State,
 }
 
 // What a writer answers: how many bytes it wrote, or why it left the output as it was.
@@ -126,7 +127,7 @@ pub fn is_written(written: Written) -> bool
     }
 }
 
-// Document 01's number of a fault.
+// The papers' number of a fault.
 pub fn fault_number(fault: Fault) -> u8
     ensures { λ r. ⌜ r ≡ faultNumber fault ⌝ }
 {
@@ -136,6 +137,7 @@ pub fn fault_number(fault: Fault) -> u8
         Fault::Area => 12,
         Fault::Size => 13,
         Fault::Room => 14,
+        Fault::State => 24,
     }
 }
 

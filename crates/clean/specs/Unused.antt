@@ -48,6 +48,6 @@ cleanTest r =
     && cleanPort (r .kind) (r .«destination_port»)
     && cleanState (r .kind) (r .checksum)
 
--- "Without it" (the request for a checksum), "in version 1, and for now in the stored form, matched is 11" (document 02, K6)
+-- "Without it" (the request for a checksum) and "in version 1 … matched is 11" (document 02, K6; of stored forms K7 says more)
 abbrev pub plainTest : Record → Bool
 plainTest r = cleanTest r && isAbsent (r .checksum)

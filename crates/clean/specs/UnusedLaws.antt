@@ -46,11 +46,11 @@ port-clean (Ip4 t) p h = (λ t. h, λ e. refl)
 port-clean (Ip6 t) p h = (λ t. h, λ e. refl)
 port-clean (Unix t) p h = (λ t. eqb-true p 0 t, λ e. eq-eqb p 0 e)
 
-state-absent : (c : Checksum) → isAbsent c ≡ true ↔ (c ≡ Absent)
+pub state-absent : (c : Checksum) → isAbsent c ≡ true ↔ (c ≡ Absent)
 state-absent Absent = (λ t. refl, λ e. refl)
 state-absent Matched = (λ t. let z : _≡_ {A = ℕ} 0 1 = cc in absurd (omega arith), λ e. ap isAbsent e)
 
-state-clean : (k : Kind) (c : Checksum) → cleanState k c ≡ true ↔ StateFits k c
+pub state-clean : (k : Kind) (c : Checksum) → cleanState k c ≡ true ↔ StateFits k c
 state-clean Local c = state-absent c
 state-clean Unspecified c = state-absent c
 state-clean (Ip4 t) c = (λ t. tt, λ e. refl)

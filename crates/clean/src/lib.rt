@@ -36,7 +36,8 @@ fn clean_port(kind: Kind, port: u16) -> bool
     }
 }
 
-fn is_absent(checksum: Checksum) -> bool
+// Whether the state is absent.
+pub fn is_absent(checksum: Checksum) -> bool
     ensures { λ r. ⌜ r ≡ isAbsent checksum ⌝ }
 {
     match checksum {
@@ -46,7 +47,7 @@ fn is_absent(checksum: Checksum) -> bool
 }
 
 // Whether the state is absent, or the kind has addresses.
-fn clean_state(kind: Kind, checksum: Checksum) -> bool
+pub fn clean_state(kind: Kind, checksum: Checksum) -> bool
     ensures { λ r. ⌜ r ≡ cleanState kind checksum ⌝ }
 {
     match kind {

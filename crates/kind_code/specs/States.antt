@@ -1,4 +1,4 @@
--- The bytes of a checksum state in C connections: 0 absent, 1 matched (include/dawnhawse.h).
+-- The bytes of a checksum state in stored forms, version 2 (document 02, K7), and in C connections (include/dawnhawse.h).
 use mathlib.Core.Option.{Option, some, none}
 use Prim.Native.Nat.{ℕ}
 use lib.Dec.{eqb}
@@ -8,6 +8,7 @@ use Rattle.record.specs.declared.Checksum.the-variants.{Absent, Matched}
 use Rattle.kind_code.specs.declared.State.{State}
 use Rattle.kind_code.specs.declared.State.the-variants.{Known, Unknown}
 
+-- "0 absent, 1 matched"
 abbrev pub stateByte : Checksum → ℕ
 stateByte Absent = 0
 stateByte Matched = 1

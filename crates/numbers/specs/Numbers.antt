@@ -32,7 +32,7 @@ abbrev pub numbersAfter : WriteAnswer → List ℕ → List ℕ
 numbersAfter (wrote n) numbers = toldIn numbersSize (n ∷ 0 ∷ 0 ∷ 0 ∷ []) numbers
 numbersAfter (refuses k) numbers = numbers
 
--- 0 is accepted; else "15, 16, 17, 18"
+-- 0 is accepted; else "15, 16, 17, 18", and 24 (document 02, K7)
 abbrev pub loadNumber : LoadAnswer → ℕ
 loadNumber (loads r) = 0
 loadNumber (noRecord k) = k

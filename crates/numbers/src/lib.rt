@@ -4,6 +4,7 @@ use answer::Written;
 use answer::fault_number;
 use lookup::Answer;
 use record::Kind;
+use stored_form::Converted;
 use stored_form::Outcome;
 use stored_form::flaw_number;
 ghost use mathlib.Core.Path.{_≡_};
@@ -12,6 +13,7 @@ ghost use Rattle.record.specs.declared.Record.{Record};
 ghost use Rattle.lent.specs.Buffers.{toldIn};
 ghost use Rattle.answer.specs.Answers.{toldWritten};
 ghost use Rattle.stored_form.specs.Loading.{toldOutcome};
+ghost use Rattle.stored_form.specs.Converting.{toldConverted};
 ghost use Rattle.lookup.specs.Lookup.{toldFinding};
 ghost use Rattle.numbers.specs.Numbers.{numbersSize, toldOf, roomBeside, writtenNumber, numbersAfter, loadNumber, lookupNumber};
 
@@ -87,6 +89,16 @@ pub fn tell_written(written: Written, numbers: &mut [u64]) -> u32
             0
         }
         Written::Refused(fault) => fault_number(fault) as u32,
+    }
+}
+
+// Tells what a conversion has written, as a writer's answer is told.
+pub fn tell_converted(converted: Converted, numbers: &mut [u64]) -> u32
+    ensures { λ r. ⌜ (r ≡ writtenNumber (toldConverted converted)) × (now (numbers .exit) ≡ numbersAfter (toldConverted converted) (now (numbers .entry))) ⌝ }
+{
+    match converted {
+        Converted::Stored(written) => tell_written(written, numbers),
+        Converted::Invalid(flaw) => flaw_number(flaw) as u32,
     }
 }
 

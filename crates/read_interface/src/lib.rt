@@ -13,6 +13,7 @@ use numbers::tell;
 use reader::see;
 use record::Kind;
 use record::blank;
+use stored_form::StoredVersion;
 ghost use Rattle.fields.specs.Exactness.{verdict as verdictOn};
 ghost use Rattle.stored_form.specs.Loading.{loadAnswer};
 ghost use Rattle.checksum.specs.State.{checkedVerdict};
@@ -68,14 +69,14 @@ pub fn read_checked(bytes: &[u8], numbers: &mut [u64], connection: &mut [u8]) ->
     }
 }
 
-// Loads a connection. With room for its 222 bytes it is told; else nothing is written.
-pub fn load(stored: &[u8], connection: &mut [u8]) -> u32
-    ensures { λ r. ⌜ LoadTold (loadAnswer (now (stored .entry))) (now (connection .entry)) r (now (connection .exit)) ⌝ }
+// Loads a connection from its stored form in a version. With room for its 222 bytes it is told; else nothing is written.
+pub fn load(stored: &[u8], version: StoredVersion, connection: &mut [u8]) -> u32
+    ensures { λ r. ⌜ LoadTold (loadAnswer version (now (stored .entry))) (now (connection .entry)) r (now (connection .exit)) ⌝ }
 {
     if connection.len() < CONNECTION {
         return 14;
     }
-    let loaded = load::load(stored);
+    let loaded = load::load(stored, version);
     let outcome = loaded.outcome;
     let record = loaded.record;
     put_record(record, connection);

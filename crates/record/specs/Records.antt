@@ -56,7 +56,7 @@ pub record Clean (r : Record) : Type 0 where
   pub «destination_port» : PortFits (r .kind) (r .«destination_port»)
   pub checksum : StateFits (r .kind) (r .checksum)
 
--- "Without it" (the request for a checksum), "in version 1, and for now in the stored form, matched is 11" (document 02, K6)
+-- "Without it" (the request for a checksum) and "in version 1 … matched is 11" (document 02, K6; of stored forms K7 says more)
 pub record Plain (r : Record) : Type 0 where
   pub clean : Clean r
   pub absent : r .checksum ≡ Absent

@@ -1,5 +1,9 @@
+pub mod Heads
+pub mod HeadLaws
 pub mod Stored
 pub mod Loading
 pub mod Meaning
 pub mod LoadLaws
 pub mod RoundTrip
+pub mod Converting
+pub mod Moving

@@ -1,4 +1,4 @@
--- What the C functions that write a connection answer and leave (document 01, "Numbered answers").
+-- What the C functions that write answer and leave (document 01, "Numbered answers").
 use mathlib.Core.Path.{_≡_}
 use mathlib.Core.List.{List}
 use Prim.Native.Nat.{ℕ}
@@ -7,6 +7,8 @@ use lib.ListN.{length}
 use Rattle.exact.specs.Pick.{pick}
 use Rattle.record.specs.declared.Record.{Record}
 use Rattle.answer.specs.Answers.{WriteAnswer, refuses, outputAfter}
+use Rattle.stored_form.specs.declared.StoredVersion.{StoredVersion}
+use Rattle.stored_form.specs.Converting.{converted, convertAnswer}
 use Rattle.request.specs.declared.Asked.{Asked}
 use Rattle.request.specs.Request.{request}
 use Rattle.numbers.specs.Numbers.{roomBeside, writtenNumber, numbersAfter}
@@ -26,3 +28,8 @@ abbrev pub WritesAsked : (answerFor : Record → (room : ℕ) → WriteAnswer) (
     → ℕ → (outputLeft numbersLeft : List ℕ) → Type 0
 WritesAsked answerFor text connection output numbers =
     Writes (askedAnswer answerFor (request connection) (roomBeside (length numbers) (length output))) (text (request connection .«record»)) output numbers
+
+-- and where stored bytes are moved to another version (document 02, K7)
+abbrev pub WritesConverted : (from to : StoredVersion) (bytes output numbers : List ℕ) → ℕ → (outputLeft numbersLeft : List ℕ) → Type 0
+WritesConverted from to bytes output numbers =
+    Writes (convertAnswer from to bytes (roomBeside (length numbers) (length output))) (converted from to bytes) output numbers

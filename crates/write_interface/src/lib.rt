@@ -1,15 +1,18 @@
-// Writing for C callers: a line, a header or a stored record from the bytes of a connection. No public function has a `requires`.
+// Writing for C callers: a line, a header or a stored form from the bytes of a connection, or a stored form from that of another version. No public
+// function has a `requires`.
 use checked_writer::write_header;
 use numbers::room_beside;
+use numbers::tell_converted;
 use numbers::tell_written;
 use request::request;
+use stored_form::StoredVersion;
 ghost use Rattle.record.specs.declared.Record.{Record};
 ghost use Rattle.line_text.specs.LineText.{writtenLine};
 ghost use Rattle.line_writer.specs.Written.{lineAnswer};
 ghost use Rattle.block_writer.specs.Written.{blockAnswer, writtenBlock};
 ghost use Rattle.checked_writer.specs.Written.{writtenChecked, checkedAnswer, headerText, headerAnswer};
 ghost use Rattle.stored_form.specs.Stored.{stored, storeAnswer};
-ghost use Rattle.write_interface.specs.WriteInterface.{WritesAsked};
+ghost use Rattle.write_interface.specs.WriteInterface.{WritesAsked, WritesConverted};
 
 // Writes a connection's version 1 line, and tells its length; or answers why not, and leaves both buffers as they were.
 pub fn write_v1(connection: &[u8], out: &mut [u8], numbers: &mut [u64]) -> u32
@@ -62,9 +65,9 @@ pub fn write_v2_checked(connection: &[u8], area: &[u8], out: &mut [u8], numbers:
     write_asked(connection, area, true, out, numbers)
 }
 
-// Stores a connection; else as `write_v1`.
-pub fn store(connection: &[u8], out: &mut [u8], numbers: &mut [u64]) -> u32
-    ensures { λ r. ⌜ WritesAsked storeAnswer stored (now (connection .entry)) (now (out .entry)) (now (numbers .entry)) r (now (out .exit)) (now (numbers .exit)) ⌝ }
+// Stores a connection in a version; else as `write_v1`.
+pub fn store(connection: &[u8], version: StoredVersion, out: &mut [u8], numbers: &mut [u64]) -> u32
+    ensures { λ r. ⌜ WritesAsked (storeAnswer version) (stored version) (now (connection .entry)) (now (out .entry)) (now (numbers .entry)) r (now (out .exit)) (now (numbers .exit)) ⌝ }
 {
     let asked = request(connection);
     let number = asked.number;
@@ -73,5 +76,19 @@ pub fn store(connection: &[u8], out: &mut [u8], numbers: &mut [u64]) -> u32
         return number;
     }
     let room = room_beside(numbers.len(), out.len());
-    tell_written(store::store(record, &mut out[..room]), numbers)
+    tell_written(store::store(record, version, &mut out[..room]), numbers)
+}
+
+// Writes the stored form of one version as that of another, and tells its length; or answers why not, and leaves both buffers as they were.
+pub fn convert(
+    bytes: &[u8],
+    from: StoredVersion,
+    to: StoredVersion,
+    out: &mut [u8],
+    numbers: &mut [u64],
+) -> u32
+    ensures { λ r. ⌜ WritesConverted from to (now (bytes .entry)) (now (out .entry)) (now (numbers .entry)) r (now (out .exit)) (now (numbers .exit)) ⌝ }
+{
+    let room = room_beside(numbers.len(), out.len());
+    tell_converted(convert::convert(bytes, from, to, &mut out[..room]), numbers)
 }

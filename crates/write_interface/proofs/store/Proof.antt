@@ -3,21 +3,22 @@ use Prim.Native.Nat.{ℕ}
 use denote.Ref.{now}
 use Rattle.exact.specs.Pick.{pick-by}
 use Rattle.record.specs.declared.Record.{Record}
-use Rattle.clean.specs.Unused.{plainTest}
+use Rattle.clean.specs.Unused.{cleanTest}
+use Rattle.stored_form.specs.declared.StoredVersion.{StoredVersion}
 use Rattle.stored_form.specs.Stored.{stored, storeAnswer}
-use Rattle.write_interface.proofs.WriteLaws.{Within, fits-at-last, refused, passed-on, part-inside, part-size}
+use Rattle.write_interface.proofs.WriteLaws.{Within, kept-within, refused, passed-on, part-inside, part-size}
 use borrow.Author.Needs.{needs}
 use Rattle.write_interface.proofs.store.Statement.{statement}
 use Rattle.write_interface.proofs.store.Tie as tie
 
-within : (r : Record) (room : ℕ) → Within room (storeAnswer r room)
-within r room = pick-by (Within room) (plainTest r) (λ t. fits-at-last _ room 14) (λ t. tt)
+within : (v : StoredVersion) (r : Record) (room : ℕ) → Within room (storeAnswer v r room)
+within v r room = pick-by (Within room) (cleanTest r) (λ t. kept-within v (r .checksum) _ room) (λ t. tt)
 
 returns : tie.Need-returns
 returns c =
     let asked = c .before .before in
     let x = asked .before .before .before .before .args in
-    refused storeAnswer stored (now (x .out)) (now (x .numbers)) (asked .request .result) (asked .request .ensures) (c .if1 .taken)
+    refused (storeAnswer (x .version)) (stored (x .version)) (now (x .out)) (now (x .numbers)) (asked .request .result) (asked .request .ensures) (c .if1 .taken)
 
 slice-relend-prefix : tie.Need-slice-relend-prefix-store
 slice-relend-prefix c =
@@ -36,8 +37,8 @@ returns-2 c =
     let beside = written .before .before in
     let asked = beside .before .before .before in
     let x = asked .before .before .before .before .args in
-    passed-on storeAnswer stored (now (x .out)) (now (x .numbers)) (asked .request .result) within (written .store .result)
-    (beside .room-beside .result) (written .store .last .1 .0) (asked .request .ensures) (beside .before .if1 .left) (beside .room-beside .ensures)
+    passed-on (storeAnswer (x .version)) (stored (x .version)) (now (x .out)) (now (x .numbers)) (asked .request .result) (within (x .version)) (written .store .result)
+    (beside .room-beside .result) (written .store .last .1 .1 .0) (asked .request .ensures) (beside .before .if1 .left) (beside .room-beside .ensures)
     (written .store .ensures .0) (written .store .ensures .1) (told .tell-written .ensures)
 
 pub store-spec : {M : Type 1} → statement M
