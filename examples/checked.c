@@ -73,7 +73,7 @@ int main(void)
     printf("written with a checksum: %s, %d bytes, %s\n", dawnhawse_answer_name(answer), (int)numbers[DAWNHAWSE_WRITTEN_LENGTH],
            memcmp(written, sent, sizeof sent) == 0 ? "as sent" : "others than sent");
 
-    /* The other writers take no connection that says matched, as they write no checksum to match: they want it set to absent. */
+    /* Where no checksum is written there is none to match: such a header is written of a connection that says absent only. */
     answer = dawnhawse_write_v2(connection, sizeof connection, alpn, sizeof alpn, written, sizeof written, numbers,
                                 DAWNHAWSE_NUMBERS);
     printf("written without one: %s", dawnhawse_answer_name(answer));

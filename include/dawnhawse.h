@@ -26,8 +26,12 @@
  *   dawnhawse_write_v1            3200   nothing: at most 104 bytes are written
  *   dawnhawse_write_v2            1216   the TLVs of the area, each looked at once, and the bytes written
  *   dawnhawse_write_v2_checked    1728   the TLVs of the area, each looked at twice, and the bytes written, each looked at once
- *   dawnhawse_store                800   nothing: at most 222 bytes are written
- *   dawnhawse_load                 800   nothing: at most 222 bytes are read
+ *   dawnhawse_store               1088   nothing: at most 222 bytes are written
+ *   dawnhawse_load                1408   nothing: at most 222 bytes are read
+ *   dawnhawse_store_v2            1088   nothing: at most 223 bytes are written
+ *   dawnhawse_load_v2             1408   nothing: at most 223 bytes are read
+ *   dawnhawse_forward             1408   nothing: at most 222 bytes are read and 223 written
+ *   dawnhawse_back                1408   nothing: at most 223 bytes are read and 222 written
  *   dawnhawse_crc32c              1152   the bytes, each looked at once
  *
  * Stack is a bound in bytes, the return address among them; tests/stack.c measures each function on a painted stack.
@@ -39,9 +43,9 @@
 #include <stdint.h>
 
 /* The release of the library; README says what each of its numbers counts. */
-#define DAWNHAWSE_RELEASE "0.4.0"
+#define DAWNHAWSE_RELEASE "0.5.0"
 #define DAWNHAWSE_RELEASE_MAJOR 0
-#define DAWNHAWSE_RELEASE_MINOR 4
+#define DAWNHAWSE_RELEASE_MINOR 5
 #define DAWNHAWSE_RELEASE_PATCH 0
 
 #ifdef __cplusplus
@@ -74,32 +78,37 @@ extern "C" {
 #define DAWNHAWSE_REFUSED_TLV 9     /* version 2: a TLV inside the header */
 
 /* Writers: the record has no form in the version; an address byte or port that the kind does not use is not zero, or the checksum
-   state is matched beside local or unspecified, or where no checksum is written. */
+   state is matched beside local or unspecified, or for a header that is written without a checksum. */
 #define DAWNHAWSE_NO_FORM 10
 #define DAWNHAWSE_UNUSED_NOT_ZERO 11
 
-/* TLVs do not fill the area or what remains of it, or the one TLV looked at does not end in it; version 2 writers: or an area
-   that is not empty beside local or unspecified, or a checksum asked for beside these or beside a 0x03 TLV. */
+/* TLVs do not fill the area or what remains of it, or the one TLV looked at does not end in it; writers of version 2 headers: or an
+   area that is not empty beside local or unspecified, or a checksum asked for beside these or beside a 0x03 TLV. */
 #define DAWNHAWSE_ILL_FORMED 12
 
-/* Version 2 writers: address block and TLVs exceed 65535 bytes. */
+/* Writers of version 2 headers: address block and TLVs exceed 65535 bytes. */
 #define DAWNHAWSE_TOO_LARGE 13
 
 /* A buffer that must be written is too short. */
 #define DAWNHAWSE_NO_ROOM 14
 
-/* Load: the first three bytes are not the mark; the next two are not version 1. */
+/* Load, forward and back: the first three bytes of the form are not the mark; the next two are not the version that the function
+   takes. */
 #define DAWNHAWSE_WRONG_MARK 15
 #define DAWNHAWSE_WRONG_VERSION 16
 
-/* Load: the kind code is unknown; the length is not the one of the kind. Writers: the kind code or the checksum state of a
-   connection is unknown; it has not 222 bytes. */
+/* Load, forward and back: the form's kind code is unknown; its length is not the one of its kind. Writers: the kind code or the
+   checksum state of a connection is unknown; it has not 222 bytes. */
 #define DAWNHAWSE_UNKNOWN_KIND 17
 #define DAWNHAWSE_WRONG_SIZE 18
 
 /* Checked reading: a whole header of an address kind whose checksum is wrong, or whose 0x03 TLV has a value that is not 4 bytes, or
    that has several 0x03 TLVs. */
 #define DAWNHAWSE_WRONG_CHECKSUM 23
+
+/* dawnhawse_load_v2 and dawnhawse_back: the form's checksum state is neither 0 nor 1, or it is matched beside local or unspecified.
+   dawnhawse_store and dawnhawse_back: the state is matched, for which version 1 of the stored form has no place. */
+#define DAWNHAWSE_WRONG_STATE 24
 
 /* dawnhawse_next, dawnhawse_step: the walk is at the end of the area. */
 #define DAWNHAWSE_END 252
@@ -130,14 +139,16 @@ extern "C" {
 #define DAWNHAWSE_VALUE_START 2  /* where the value starts in the area */
 #define DAWNHAWSE_VALUE_LENGTH 3 /* the value's length */
 
-/* dawnhawse_write_v1, dawnhawse_write_v2, dawnhawse_write_v2_checked and dawnhawse_store */
+/* dawnhawse_write_v1, dawnhawse_write_v2, dawnhawse_write_v2_checked, dawnhawse_store, dawnhawse_store_v2, dawnhawse_forward and
+   dawnhawse_back */
 #define DAWNHAWSE_WRITTEN_LENGTH 0 /* how many bytes were written; the other three numbers are 0 */
 
 /* ---- Outputs: so many bytes are room enough ---- */
 
-#define DAWNHAWSE_LONGEST_V1 104       /* a version 1 line that is written; one that is read has at most 107 */
-#define DAWNHAWSE_LONGEST_HEADER 65551 /* any header */
-#define DAWNHAWSE_LONGEST_STORED 222   /* a stored form */
+#define DAWNHAWSE_LONGEST_V1 104        /* a version 1 line that is written; one that is read has at most 107 */
+#define DAWNHAWSE_LONGEST_HEADER 65551  /* any header */
+#define DAWNHAWSE_LONGEST_STORED 222    /* a stored form of version 1: 3 + 2 + 1 + 216 */
+#define DAWNHAWSE_LONGEST_STORED_V2 223 /* a stored form of version 2: 3 + 2 + 1 + 1 + 216 */
 
 /* ---- A connection: uint8_t connection[DAWNHAWSE_CONNECTION] ---- */
 
@@ -161,8 +172,10 @@ extern "C" {
 #define DAWNHAWSE_UNIX_STREAM 0x31
 #define DAWNHAWSE_UNIX_DATAGRAM 0x32
 
-/* Checksum states. Of the writers only dawnhawse_write_v2_checked takes matched; for the others set it to absent. */
-#define DAWNHAWSE_CHECKSUM_ABSENT 0  /* no header was accepted, or it has no checksum, or the reading was not a checked one */
+/* Checksum states. Of the writers only dawnhawse_write_v2_checked and dawnhawse_store_v2 take matched, and only beside IPv4, IPv6
+   and UNIX; for the others set it to absent. */
+#define DAWNHAWSE_CHECKSUM_ABSENT 0  /* no header was accepted, or it has no checksum, or the reading was not a checked one, or the
+                                        connection comes from a stored form of version 1 */
 #define DAWNHAWSE_CHECKSUM_MATCHED 1 /* the header has one checksum, and it is right */
 
 /* ---- Functions ---- */
@@ -327,7 +340,29 @@ uint32_t dawnhawse_write_v2_checked(const uint8_t *connection, size_t connection
                                     uint8_t *out, size_t out_len, uint64_t *numbers, size_t numbers_len);
 
 /*
- * Writes the stored form of a connection to the front of the output: one connection, one byte string.
+ * Stored forms: a connection in few bytes, to be kept and loaded again. There are two versions.
+ *
+ *   version 1   43 53 52 ("CSR"), 00 01, kind code, address block                   3 + 2 + 1 + A bytes: 6, 18, 42 or 222
+ *   version 2   43 53 52 ("CSR"), 00 02, kind code, checksum state, address block   3 + 2 + 1 + 1 + A bytes: 7, 19, 43 or 223
+ *
+ * The address block is source, destination, source port and destination port, in network order: A is 0 for local and unspecified,
+ * 4 + 4 + 2 + 2 = 12 for IPv4, 16 + 16 + 2 + 2 = 36 for IPv6, and 108 + 108 = 216 for UNIX, which has no ports. A form has exactly
+ * the length of its kind; longer or shorter it is refused with DAWNHAWSE_WRONG_SIZE. So keep its length beside it.
+ *
+ * Version 2 keeps the checksum state, so it is the one for new forms. Version 1 has no place for the state: it takes absent only,
+ * and loads as absent. It is for forms that are there already, and for programs that read no other, such as those with a release
+ * before 0.5.0. dawnhawse_forward moves a form from version 1 to version 2, and dawnhawse_back moves it back.
+ *
+ * Each function takes forms of one version. Where either may come, ask dawnhawse_load first: it answers DAWNHAWSE_WRONG_VERSION to
+ * every form of version 2, which dawnhawse_load_v2 then loads. The other way round a form of 6 bytes would be DAWNHAWSE_WRONG_SIZE
+ * (examples/stored.c).
+ *
+ * Matched speaks of the header that was read. Nothing in a form guards the form's own bytes: one in which an address was altered
+ * loads as any other.
+ */
+
+/*
+ * Writes the stored form of a connection, version 1, to the front of the output: one connection, one byte string.
  *
  *   connection, connection_len   exactly DAWNHAWSE_CONNECTION bytes; not altered
  *   out, out_len                 the output, of which DAWNHAWSE_LONGEST_STORED bytes are enough; bytes past the form stay
@@ -336,7 +371,8 @@ uint32_t dawnhawse_write_v2_checked(const uint8_t *connection, size_t connection
  * Answers, the first that applies; a refusal leaves both buffers as they were
  *   DAWNHAWSE_WRONG_SIZE        connection has not 222 bytes
  *   DAWNHAWSE_UNKNOWN_KIND      its kind code or its checksum state is unknown
- *   DAWNHAWSE_UNUSED_NOT_ZERO   an unused byte or port is not zero, or its checksum state is matched
+ *   DAWNHAWSE_UNUSED_NOT_ZERO   an unused byte or port is not zero, or its state is matched beside local or unspecified
+ *   DAWNHAWSE_WRONG_STATE       its state is matched, for which version 1 has no place
  *   DAWNHAWSE_NO_ROOM           the output is shorter than the form, or numbers has fewer than 4 elements
  *   DAWNHAWSE_WRITTEN           the form is written; numbers: its length, 6, 18, 42 or 222, then 0, 0, 0
  */
@@ -344,7 +380,7 @@ uint32_t dawnhawse_store(const uint8_t *connection, size_t connection_len, uint8
                          uint64_t *numbers, size_t numbers_len);
 
 /*
- * The connection of a stored form.
+ * The connection of a stored form of version 1.
  *
  *   stored, stored_len           the form, and no byte more; not altered
  *   connection, connection_len   at least DAWNHAWSE_CONNECTION bytes; bytes past the 222nd stay as they were
@@ -359,6 +395,87 @@ uint32_t dawnhawse_store(const uint8_t *connection, size_t connection_len, uint8
  *   DAWNHAWSE_LOADED          connection: what was stored, with DAWNHAWSE_CHECKSUM_ABSENT
  */
 uint32_t dawnhawse_load(const uint8_t *stored, size_t stored_len, uint8_t *connection, size_t connection_len);
+
+/*
+ * Writes the stored form of a connection, version 2, with its checksum state, to the front of the output: one connection, one byte
+ * string.
+ *
+ *   connection, connection_len   exactly DAWNHAWSE_CONNECTION bytes; not altered
+ *   out, out_len                 the output, of which DAWNHAWSE_LONGEST_STORED_V2 bytes are enough; bytes past the form stay
+ *   numbers, numbers_len         at least DAWNHAWSE_NUMBERS elements
+ *
+ * Answers, the first that applies; a refusal leaves both buffers as they were
+ *   DAWNHAWSE_WRONG_SIZE        connection has not 222 bytes
+ *   DAWNHAWSE_UNKNOWN_KIND      its kind code or its checksum state is unknown
+ *   DAWNHAWSE_UNUSED_NOT_ZERO   an unused byte or port is not zero, or its state is matched beside local or unspecified
+ *   DAWNHAWSE_NO_ROOM           the output is shorter than the form, or numbers has fewer than 4 elements
+ *   DAWNHAWSE_WRITTEN           the form is written; numbers: its length, 7, 19, 43 or 223, then 0, 0, 0
+ */
+uint32_t dawnhawse_store_v2(const uint8_t *connection, size_t connection_len, uint8_t *out, size_t out_len,
+                            uint64_t *numbers, size_t numbers_len);
+
+/*
+ * The connection of a stored form of version 2, with its checksum state.
+ *
+ *   stored, stored_len           the form, and no byte more; not altered
+ *   connection, connection_len   at least DAWNHAWSE_CONNECTION bytes; bytes past the 222nd stay as they were
+ *
+ * Answers, the first that applies
+ *   DAWNHAWSE_NO_ROOM         connection has fewer than 222 bytes; it is as it was
+ *   DAWNHAWSE_WRONG_SIZE      the form has fewer than 7 bytes; connection: unspecified, all else zero
+ *   DAWNHAWSE_WRONG_MARK      it does not begin with 43 53 52; connection: the same
+ *   DAWNHAWSE_WRONG_VERSION   00 02 does not follow; connection: the same
+ *   DAWNHAWSE_UNKNOWN_KIND    its kind code is unknown; connection: the same
+ *   DAWNHAWSE_WRONG_STATE     its state is neither 0 nor 1, or 1 beside local or unspecified; connection: the same
+ *   DAWNHAWSE_WRONG_SIZE      its length is not the one of its kind; connection: the same
+ *   DAWNHAWSE_LOADED          connection: what was stored, with DAWNHAWSE_CHECKSUM_ABSENT or DAWNHAWSE_CHECKSUM_MATCHED
+ */
+uint32_t dawnhawse_load_v2(const uint8_t *stored, size_t stored_len, uint8_t *connection, size_t connection_len);
+
+/*
+ * Moves a stored form forward, from version 1 to version 2: writes to the front of the output what dawnhawse_store_v2 writes of the
+ * connection that dawnhawse_load gives. Version 1 does not tell the checksum state, so it is absent. dawnhawse_back then gives the
+ * same bytes again. The output is another buffer: a form is not moved in place.
+ *
+ *   stored, stored_len     a form of version 1, and no byte more; not altered
+ *   out, out_len           the output, of which DAWNHAWSE_LONGEST_STORED_V2 bytes are enough; bytes past the form stay
+ *   numbers, numbers_len   at least DAWNHAWSE_NUMBERS elements
+ *
+ * Answers, the first that applies; a refusal leaves both buffers as they were
+ *   DAWNHAWSE_WRONG_SIZE      the form has fewer than 6 bytes
+ *   DAWNHAWSE_WRONG_MARK      it does not begin with 43 53 52
+ *   DAWNHAWSE_WRONG_VERSION   00 01 does not follow
+ *   DAWNHAWSE_UNKNOWN_KIND    its kind code is unknown
+ *   DAWNHAWSE_WRONG_SIZE      its length is not the one of its kind
+ *   DAWNHAWSE_NO_ROOM         the output is shorter than the form of version 2, or numbers has fewer than 4 elements
+ *   DAWNHAWSE_WRITTEN         the form of version 2 is written; numbers: its length, 7, 19, 43 or 223, then 0, 0, 0
+ */
+uint32_t dawnhawse_forward(const uint8_t *stored, size_t stored_len, uint8_t *out, size_t out_len, uint64_t *numbers,
+                           size_t numbers_len);
+
+/*
+ * Moves a stored form back, from version 2 to version 1: writes to the front of the output what dawnhawse_store writes of the
+ * connection that dawnhawse_load_v2 gives. A form that says matched is refused, since version 1 would lose that; of one that says
+ * absent dawnhawse_forward then gives the same bytes again. A caller who can do without the state loads the form by
+ * dawnhawse_load_v2, sets the state to absent and stores the connection by dawnhawse_store. Again the output is another buffer.
+ *
+ *   stored, stored_len     a form of version 2, and no byte more; not altered
+ *   out, out_len           the output, of which DAWNHAWSE_LONGEST_STORED bytes are enough; bytes past the form stay
+ *   numbers, numbers_len   at least DAWNHAWSE_NUMBERS elements
+ *
+ * Answers, the first that applies; a refusal leaves both buffers as they were
+ *   DAWNHAWSE_WRONG_SIZE      the form has fewer than 7 bytes
+ *   DAWNHAWSE_WRONG_MARK      it does not begin with 43 53 52
+ *   DAWNHAWSE_WRONG_VERSION   00 02 does not follow
+ *   DAWNHAWSE_UNKNOWN_KIND    its kind code is unknown
+ *   DAWNHAWSE_WRONG_STATE     its state is neither 0 nor 1, or 1 beside local or unspecified
+ *   DAWNHAWSE_WRONG_SIZE      its length is not the one of its kind
+ *   DAWNHAWSE_WRONG_STATE     its state is matched
+ *   DAWNHAWSE_NO_ROOM         the output is shorter than the form of version 1, or numbers has fewer than 4 elements
+ *   DAWNHAWSE_WRITTEN         the form of version 1 is written; numbers: its length, 6, 18, 42 or 222, then 0, 0, 0
+ */
+uint32_t dawnhawse_back(const uint8_t *stored, size_t stored_len, uint8_t *out, size_t out_len, uint64_t *numbers,
+                        size_t numbers_len);
 
 /*
  * The CRC32C of the bytes, as RFC 4960 appendix B defines it: "123456789" gives 0xe3069283, no bytes give 0. It is no answer but
@@ -392,6 +509,7 @@ static inline const char *dawnhawse_answer_name(uint32_t answer)
     case DAWNHAWSE_UNKNOWN_KIND: return "unknown-kind";
     case DAWNHAWSE_WRONG_SIZE: return "wrong-size";
     case DAWNHAWSE_WRONG_CHECKSUM: return "wrong-checksum";
+    case DAWNHAWSE_WRONG_STATE: return "wrong-state";
     case DAWNHAWSE_END: return "end";
     case DAWNHAWSE_ABSENT: return "absent";
     case DAWNHAWSE_GAVE_UP: return "gave-up";

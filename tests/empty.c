@@ -9,12 +9,13 @@
 static const char line[] = "PROXY TCP4 192.168.0.1 192.168.0.11 56324 443\r\n";
 static const uint8_t area[] = {0x04, 0, 0};
 static const uint8_t stored[] = {'C', 'S', 'R', 0, 1, DAWNHAWSE_LOCAL};
+static const uint8_t stored_v2[] = {'C', 'S', 'R', 0, 2, DAWNHAWSE_LOCAL, DAWNHAWSE_CHECKSUM_ABSENT};
 static const uint8_t caller[DAWNHAWSE_CONNECTION] = {DAWNHAWSE_IP4_STREAM};
 
 /* What may be written, and one place more that never is. */
 static struct lent {
     uint64_t numbers[DAWNHAWSE_NUMBERS + 1];
-    uint8_t bytes[DAWNHAWSE_LONGEST_STORED + 1];
+    uint8_t bytes[DAWNHAWSE_LONGEST_STORED_V2 + 1];
 } lent, kept;
 
 static int passed, failed;
@@ -48,8 +49,10 @@ static void hold(const char *call, uint32_t with_null, uint32_t with_pointer, ui
     } while (0)
 #define NOTHING nothing, 0
 #define NUMBERS lent.numbers, DAWNHAWSE_NUMBERS
-#define BYTES lent.bytes, DAWNHAWSE_LONGEST_STORED
+#define BYTES lent.bytes, DAWNHAWSE_LONGEST_STORED_V2
 #define CALLER caller, sizeof caller
+#define STORED stored, sizeof stored
+#define STORED_V2 stored_v2, sizeof stored_v2
 
 int main(void)
 {
@@ -99,8 +102,23 @@ int main(void)
     HOLD(dawnhawse_store(CALLER, BYTES, NOTHING), DAWNHAWSE_NO_ROOM);
     HOLD(dawnhawse_store(NOTHING, NOTHING, NOTHING), DAWNHAWSE_WRONG_SIZE);
     HOLD(dawnhawse_load(NOTHING, BYTES), DAWNHAWSE_WRONG_SIZE);
-    HOLD(dawnhawse_load(stored, sizeof stored, NOTHING), DAWNHAWSE_NO_ROOM);
+    HOLD(dawnhawse_load(STORED, NOTHING), DAWNHAWSE_NO_ROOM);
     HOLD(dawnhawse_load(NOTHING, NOTHING), DAWNHAWSE_NO_ROOM);
+    HOLD(dawnhawse_store_v2(NOTHING, BYTES, NUMBERS), DAWNHAWSE_WRONG_SIZE);
+    HOLD(dawnhawse_store_v2(CALLER, NOTHING, NUMBERS), DAWNHAWSE_NO_ROOM);
+    HOLD(dawnhawse_store_v2(CALLER, BYTES, NOTHING), DAWNHAWSE_NO_ROOM);
+    HOLD(dawnhawse_store_v2(NOTHING, NOTHING, NOTHING), DAWNHAWSE_WRONG_SIZE);
+    HOLD(dawnhawse_load_v2(NOTHING, BYTES), DAWNHAWSE_WRONG_SIZE);
+    HOLD(dawnhawse_load_v2(STORED_V2, NOTHING), DAWNHAWSE_NO_ROOM);
+    HOLD(dawnhawse_load_v2(NOTHING, NOTHING), DAWNHAWSE_NO_ROOM);
+    HOLD(dawnhawse_forward(NOTHING, BYTES, NUMBERS), DAWNHAWSE_WRONG_SIZE);
+    HOLD(dawnhawse_forward(STORED, NOTHING, NUMBERS), DAWNHAWSE_NO_ROOM);
+    HOLD(dawnhawse_forward(STORED, BYTES, NOTHING), DAWNHAWSE_NO_ROOM);
+    HOLD(dawnhawse_forward(NOTHING, NOTHING, NOTHING), DAWNHAWSE_WRONG_SIZE);
+    HOLD(dawnhawse_back(NOTHING, BYTES, NUMBERS), DAWNHAWSE_WRONG_SIZE);
+    HOLD(dawnhawse_back(STORED_V2, NOTHING, NUMBERS), DAWNHAWSE_NO_ROOM);
+    HOLD(dawnhawse_back(STORED_V2, BYTES, NOTHING), DAWNHAWSE_NO_ROOM);
+    HOLD(dawnhawse_back(NOTHING, NOTHING, NOTHING), DAWNHAWSE_WRONG_SIZE);
     HOLD(dawnhawse_crc32c(NOTHING), 0);
     if (untouched != 7)
         failed++;

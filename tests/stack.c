@@ -25,6 +25,10 @@ static void do_write_v2(void) { dawnhawse_write_v2(CONNECTION, bytes, length, ou
 static void do_write_v2_checked(void) { dawnhawse_write_v2_checked(CONNECTION, bytes, length, out, room, NUMBERS); }
 static void do_store(void) { dawnhawse_store(CONNECTION, out, room, NUMBERS); }
 static void do_load(void) { dawnhawse_load(bytes, length, CONNECTION); }
+static void do_store_v2(void) { dawnhawse_store_v2(CONNECTION, out, room, NUMBERS); }
+static void do_load_v2(void) { dawnhawse_load_v2(bytes, length, CONNECTION); }
+static void do_forward(void) { dawnhawse_forward(bytes, length, out, room, NUMBERS); }
+static void do_back(void) { dawnhawse_back(bytes, length, out, room, NUMBERS); }
 static void do_crc32c(void) { dawnhawse_crc32c(bytes, length); }
 
 /* How far down a call writes, in whole words. */
@@ -62,6 +66,10 @@ static struct most {
     {do_write_v2_checked, "dawnhawse_write_v2_checked", 0},
     {do_store, "dawnhawse_store", 0},
     {do_load, "dawnhawse_load", 0},
+    {do_store_v2, "dawnhawse_store_v2", 0},
+    {do_load_v2, "dawnhawse_load_v2", 0},
+    {do_forward, "dawnhawse_forward", 0},
+    {do_back, "dawnhawse_back", 0},
     {do_crc32c, "dawnhawse_crc32c", 0},
 };
 
@@ -96,11 +104,12 @@ static const struct kind {
 };
 static const uint8_t tlvs[] = {1, 0, 2, 'h', '2', 4, 0, 0, 4, 0, 0, 0xee, 0, 1, 7};
 
-/* A connection of this kind whose used bytes are all this one, room for it, and TLVs where it may have some. */
-static void prepare(const struct kind *kind, int byte)
+/* A connection of this kind and state whose used bytes are all this one, room for it, and TLVs where it may have some. */
+static void prepare(const struct kind *kind, uint8_t state, int byte)
 {
     memset(connection, 0, sizeof connection);
     connection[DAWNHAWSE_KIND] = kind->code;
+    connection[DAWNHAWSE_CHECKSUM] = state;
     memset(connection + DAWNHAWSE_SOURCE, byte, kind->address);
     memset(connection + DAWNHAWSE_DESTINATION, byte, kind->address);
     memset(connection + DAWNHAWSE_SOURCE_PORT, byte, 2 * kind->port);
@@ -109,12 +118,18 @@ static void prepare(const struct kind *kind, int byte)
     memcpy(bytes, tlvs, length);
 }
 
-/* Reads again what a writer has written. */
-static void read_back(void (*write)(void), void (*call)(void))
+/* Reads or moves what a writer has written of such a connection; moves it once more without room. */
+static void read_back(const struct kind *kind, uint8_t state, void (*write)(void), void (*call)(void))
 {
+    size_t written;
+
+    prepare(kind, state, 7);
     write();
-    memcpy(bytes, out, numbers[DAWNHAWSE_WRITTEN_LENGTH]);
-    beginnings(call, numbers[DAWNHAWSE_WRITTEN_LENGTH]);
+    written = numbers[DAWNHAWSE_WRITTEN_LENGTH];
+    memcpy(bytes, out, written);
+    beginnings(call, written);
+    room = 0;
+    beginnings(call, written);
 }
 
 int main(void)
@@ -134,24 +149,28 @@ int main(void)
     }
     for (const struct kind *kind = kinds; kind < kinds + sizeof kinds / sizeof *kinds; kind++) {
         for (int byte = 0; byte < 256; byte++) {
-            prepare(kind, byte);
-            for (room = 0; room <= sizeof out; room += sizeof out / 8) {
-                measure(do_write_v1);
-                measure(do_write_v2);
-                measure(do_write_v2_checked);
-                measure(do_store);
+            for (uint8_t state = DAWNHAWSE_CHECKSUM_ABSENT; state <= DAWNHAWSE_CHECKSUM_MATCHED; state++) {
+                prepare(kind, state, byte);
+                for (room = 0; room <= sizeof out; room += sizeof out / 8) {
+                    measure(do_write_v1);
+                    measure(do_write_v2);
+                    measure(do_write_v2_checked);
+                    measure(do_store);
+                    measure(do_store_v2);
+                }
             }
         }
-        prepare(kind, 7);
-        read_back(do_write_v2, do_read);
-        prepare(kind, 7);
-        read_back(do_write_v2, do_read_checked);
+        read_back(kind, DAWNHAWSE_CHECKSUM_ABSENT, do_write_v2, do_read);
+        read_back(kind, DAWNHAWSE_CHECKSUM_ABSENT, do_write_v2, do_read_checked);
+        read_back(kind, DAWNHAWSE_CHECKSUM_ABSENT, do_store, do_load);
+        read_back(kind, DAWNHAWSE_CHECKSUM_ABSENT, do_store, do_forward);
+        read_back(kind, DAWNHAWSE_CHECKSUM_ABSENT, do_store_v2, do_load_v2);
+        read_back(kind, DAWNHAWSE_CHECKSUM_ABSENT, do_store_v2, do_back);
         if (kind->address) {
-            prepare(kind, 7);
-            read_back(do_write_v2_checked, do_read_checked);
+            read_back(kind, DAWNHAWSE_CHECKSUM_MATCHED, do_write_v2_checked, do_read_checked);
+            read_back(kind, DAWNHAWSE_CHECKSUM_MATCHED, do_store_v2, do_load_v2);
+            read_back(kind, DAWNHAWSE_CHECKSUM_MATCHED, do_store_v2, do_back);
         }
-        prepare(kind, 7);
-        read_back(do_store, do_load);
     }
     memcpy(bytes, tlvs, sizeof tlvs);
     for (at = 0; at < sizeof tlvs + 2; at++) {
