@@ -7,3 +7,4 @@ pub mod LoadLaws
 pub mod RoundTrip
 pub mod Converting
 pub mod Moving
+pub mod Table
