@@ -31,11 +31,10 @@ pub fn generated(random: &mut Random, count: usize) -> Outcome {
     outcome
 }
 
-/// Every kind, and codes that are none, clean or not, in states that there are and others, with good areas and bad ones, rooms at the header's end, and numbers
-/// enough or not: every refusal, alone and beside the later ones.
+/// Listed connections with good areas and bad ones, rooms at the header's end, and numbers enough or not: every refusal, alone and beside the later ones.
 pub fn refusals() -> Outcome {
     let mut outcome = Outcome::new("version 2 headers with a checksum, written or refused");
-    for connection in connections() {
+    for connection in records::listed() {
         for area in areas() {
             let length = 16 + address_block(&connection) + area.len() + ADDED;
             for room in [0, length - ADDED - 1, length - ADDED, length - 1, length, length + 1] {
@@ -46,25 +45,6 @@ pub fn refusals() -> Outcome {
         }
     }
     outcome
-}
-
-fn connections() -> Vec<Vec<u8>> {
-    let mut all = Vec::new();
-    for code in [0x00, 0x01, 0x02, 0x11, 0x12, 0x13, 0x21, 0x22, 0x31, 0x32, 0xFF] {
-        for state in [0, 1, 2, 0xFF] {
-            let mut clean = [0; connection::SIZE];
-            clean[0] = code;
-            clean[STATE] = state;
-            all.push(clean.to_vec());
-            // The last address byte of every kind but UNIX, and a port of UNIX.
-            for unused in [108, 216, 217, 220] {
-                let mut dirty = clean;
-                dirty[unused] = 1;
-                all.push(dirty.to_vec());
-            }
-        }
-    }
-    all
 }
 
 fn areas() -> Vec<Vec<u8>> {
@@ -146,7 +126,7 @@ fn reads_back(outcome: &mut Outcome, written: &Left, connection: &[u8], area: &[
         && read.bytes[..STATE] == connection[..STATE]
         && read.bytes[STATE] == 1
         && input.get(start..length - 4) == Some(&[area, &[CHECKSUM, 0, 4]].concat());
-    outcome.add(if same { Ok(()) } else { Err(format!("{} is read back as {read:x?}", hex(input))) });
+    outcome.add(if same { Ok(()) } else { Err(format!("{} is read back as {read}", hex(input))) });
     if input.len() == length && length < 1000 {
         checked_reading::prefixes(outcome, input);
     } else {

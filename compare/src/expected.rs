@@ -1,7 +1,7 @@
 //! What the C functions must leave: the words of include/dawnhawse.h, with the second program's answers.
 use crate::connection::{self, SIZE};
 use crate::{Left, BYTE, NUMBER};
-use second::{Answer, Kind, Record, Step, Verdict};
+use second::{Answer, Kind, Record, Step, StoredVersion, Verdict};
 
 const NO_ROOM: u32 = 14;
 const END: u32 = 252;
@@ -10,7 +10,7 @@ const GAVE_UP: u32 = 254;
 pub const MORE: u32 = 255;
 
 /// What is left where nothing is written.
-fn untouched(answer: u32, numbers_len: usize, bytes_len: usize) -> Left {
+pub fn untouched(answer: u32, numbers_len: usize, bytes_len: usize) -> Left {
     Left { answer, numbers: vec![NUMBER; numbers_len], bytes: vec![BYTE; bytes_len] }
 }
 
@@ -102,38 +102,51 @@ pub fn lookup(area: &[u8], wanted: u8, limit: usize, numbers_len: usize) -> Left
     told(answer, [found.count as u64, u64::from(wanted), found.start as u64, found.length as u64], numbers_len, Vec::new())
 }
 
-/// What a writer leaves of a connection's bytes. A refusal changes no buffer; too few numbers are refused where a short output is.
-fn written(connection: &[u8], room: usize, numbers_len: usize, write: impl FnOnce(&Record, &mut [u8]) -> Result<usize, u8>) -> Left {
+/// What is left where bytes are written. A refusal changes no buffer; too few numbers are refused where a short output is.
+fn written(room: usize, numbers_len: usize, write: impl FnOnce(&mut [u8]) -> Result<usize, u32>) -> Left {
     let mut out = vec![BYTE; room];
-    let wrote = connection::record(connection).and_then(|record| write(&record, &mut out).map_err(u32::from));
-    match wrote {
+    match write(&mut out) {
         Ok(_) if numbers_len < 4 => untouched(NO_ROOM, numbers_len, room),
         Ok(length) => told(0, [length as u64, 0, 0, 0], numbers_len, out),
         Err(number) => untouched(number, numbers_len, room),
     }
 }
 
+/// The same of a connection's bytes.
+fn written_of(connection: &[u8], room: usize, numbers_len: usize, write: impl FnOnce(&Record, &mut [u8]) -> Result<usize, u8>) -> Left {
+    written(room, numbers_len, |out| write(&connection::record(connection)?, out).map_err(u32::from))
+}
+
 pub fn write_v1(connection: &[u8], room: usize, numbers_len: usize) -> Left {
-    written(connection, room, numbers_len, second::write_v1)
+    written_of(connection, room, numbers_len, second::write_v1)
 }
 
 pub fn write_v2(connection: &[u8], area: &[u8], room: usize, numbers_len: usize) -> Left {
-    written(connection, room, numbers_len, |record, out| second::write_v2(record, area, out))
+    written_of(connection, room, numbers_len, |record, out| second::write_v2(record, area, out))
 }
 
 pub fn write_v2_checked(connection: &[u8], area: &[u8], room: usize, numbers_len: usize) -> Left {
-    written(connection, room, numbers_len, |record, out| second::write_v2_checked(record, area, out))
+    written_of(connection, room, numbers_len, |record, out| second::write_v2_checked(record, area, out))
 }
 
-pub fn store(connection: &[u8], room: usize, numbers_len: usize) -> Left {
-    written(connection, room, numbers_len, second::store)
+pub fn store(version: StoredVersion, connection: &[u8], room: usize, numbers_len: usize) -> Left {
+    written_of(connection, room, numbers_len, |record, out| second::store(version, record, out))
 }
 
-pub fn load(stored: &[u8], connection_len: usize) -> Left {
+/// Forward from version 1, back from version 2.
+pub fn move_from(version: StoredVersion, stored: &[u8], room: usize, numbers_len: usize) -> Left {
+    let moving = match version {
+        StoredVersion::One => second::forward,
+        StoredVersion::Two => second::back,
+    };
+    written(room, numbers_len, |out| moving(stored, out).map_err(u32::from))
+}
+
+pub fn load(version: StoredVersion, stored: &[u8], connection_len: usize) -> Left {
     if connection_len < SIZE {
         return untouched(NO_ROOM, 0, connection_len);
     }
-    let (answer, record) = match second::load(stored) {
+    let (answer, record) = match second::load(version, stored) {
         Ok(record) => (0, record),
         Err(number) => (u32::from(number), Record::blank(Kind::Unspecified)),
     };

@@ -2,7 +2,7 @@
 use crate::connection::{SIZE, STATE};
 use crate::outcome::Outcome;
 use crate::random::Random;
-use crate::{checksum_headers, connection, expected, headers, hex, library, records, whole, Left, CONNECTION, NUMBERS};
+use crate::{checksum_headers, connection, expected, headers, hex, library, records, whole, Left, NUMBERS, STORED_VERSIONS};
 use second::Verdict;
 
 /// Byte 13 with every value under LOCAL and PROXY, and a block of each of these lengths: every prefix, also with bytes behind; of the longest those
@@ -142,44 +142,10 @@ pub fn blocks(random: &mut Random, count: usize) -> Outcome {
     outcome
 }
 
-/// The stored form of connections of every kind, in every room; what is written is loaded again.
-pub fn stored(random: &mut Random, count: usize) -> Outcome {
-    let mut outcome = Outcome::new("stored records");
-    for _ in 0..count {
-        let connection = records::any(random);
-        let numbers = numbers(random);
-        for room in rooms(6 + 216) {
-            let here = library::store(&connection, room, numbers);
-            if here.answer == 0 {
-                let again = library::load(&here.bytes[..here.numbers[0] as usize], SIZE);
-                outcome.add(if again.answer == 0 && again.bytes[..] == connection { Ok(()) } else { Err(format!("{} is loaded as {again:x?}", hex(&connection))) });
-            }
-            outcome.same(&here, &expected::store(&connection, room, numbers), || format!("{} with {numbers} numbers in {room} bytes", hex(&connection)));
-        }
-    }
-    outcome
-}
-
-/// Stored forms, whole, cut, lengthened and damaged.
-pub fn loads(random: &mut Random, forms: usize) -> Outcome {
-    let mut outcome = Outcome::new("loaded records");
-    for _ in 0..forms {
-        let form = records::stored(random);
-        outcome.same(&library::load(&form, CONNECTION), &expected::load(&form, CONNECTION), || hex(&form));
-    }
-    outcome
-}
-
-/// Every kind code: of stored forms of zeros, about the lengths of all kinds, and of a connection of zeros and another of ones.
+/// Every kind code, of a connection of zeros and another of ones.
 pub fn kind_codes() -> Outcome {
     let mut outcome = Outcome::new("kind codes");
     for code in 0..=255 {
-        for length in (6..=8).chain(17..=19).chain(41..=43).chain(221..=223) {
-            let mut form = b"CSR\x00\x01".to_vec();
-            form.push(code);
-            form.resize(length, 0);
-            outcome.same(&library::load(&form, CONNECTION), &expected::load(&form, CONNECTION), || hex(&form));
-        }
         for fill in [0, 1] {
             let mut connection = [fill; SIZE];
             connection[0] = code;
@@ -211,7 +177,11 @@ fn writes(outcome: &mut Outcome, connection: &[u8], area: &[u8], room: usize, nu
     outcome.same(&library::write_v1(connection, room, numbers), &expected::write_v1(connection, room, numbers), input);
     outcome.same(&library::write_v2(connection, area, room, numbers), &expected::write_v2(connection, area, room, numbers), input);
     outcome.same(&library::write_v2_checked(connection, area, room, numbers), &expected::write_v2_checked(connection, area, room, numbers), input);
-    outcome.same(&library::store(connection, room, numbers), &expected::store(connection, room, numbers), input);
+    for version in STORED_VERSIONS {
+        outcome.same(&library::store(version, connection, room, numbers), &expected::store(version, connection, room, numbers), || {
+            format!("{} in stored version {}", input(), version as u8)
+        });
+    }
 }
 
 /// Every length of the numbers and of the connection, lent and given, up to eight bytes too many.
@@ -219,8 +189,6 @@ pub fn buffers() -> Outcome {
     let mut outcome = Outcome::new("buffer lengths");
     let line = b"PROXY TCP4 192.168.0.1 192.168.0.11 56324 443\r\n";
     let Verdict::Accepted(header) = second::judge(line) else { panic!("W02 is a whole header") };
-    let mut form = vec![0; 18];
-    second::store(&header.record, &mut form).expect("room");
     let area = [4, 0, 1, 9];
     let mut given = [&connection::bytes(&header.record)[..], &[0; 8]].concat();
     for (state, numbers) in [0, 1].into_iter().flat_map(|state| (0..=NUMBERS).map(move |numbers| (state, numbers))) {
@@ -240,9 +208,6 @@ pub fn buffers() -> Outcome {
             outcome.same(&library::read(input, numbers, length), &expected::read(input, numbers, length), told);
             outcome.same(&library::read_checked(input, numbers, length), &expected::read_checked(input, numbers, length), told);
         }
-    }
-    for length in 0..=given.len() {
-        outcome.same(&library::load(&form, length), &expected::load(&form, length), || format!("{length} bytes"));
     }
     for numbers in 0..=NUMBERS {
         outcome.same(&library::step(&area, 0, numbers), &expected::step(&area, 0, numbers), || format!("{numbers} numbers"));

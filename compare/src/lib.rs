@@ -1,6 +1,7 @@
 //! The proved library and the second program on the same inputs: `library` calls the one through its C interface, `expected` says by the
 //! other what it must leave, `interface` compares the two on inputs made in `inputs` and `headers`, and `whole` on every prefix of whole headers.
-//! The checksum (document 02, K6) has its inputs in `checksum_headers`, and is compared in `crc32c`, `checked_reading` and `checked_writing`.
+//! The checksum (document 02, K6) has its inputs in `checksum_headers`, and is compared in `crc32c`, `checked_reading` and `checked_writing`; stored forms
+//! (K7) are compared in `stored`.
 pub mod checked_reading;
 pub mod checked_writing;
 pub mod checksum_headers;
@@ -14,7 +15,11 @@ pub mod library;
 pub mod outcome;
 pub mod random;
 pub mod records;
+pub mod stored;
 pub mod whole;
+
+use second::StoredVersion;
+use std::fmt;
 
 /// What a call leaves: its answer, the numbers, and the bytes of the buffer that it may write.
 #[derive(Clone, Debug, PartialEq, Eq)]
@@ -22,6 +27,24 @@ pub struct Left {
     pub answer: u32,
     pub numbers: Vec<u64>,
     pub bytes: Vec<u8>,
+}
+
+impl Left {
+    /// The bytes at the front of the buffer that the call says it wrote.
+    pub fn written(&self) -> Option<&[u8]> {
+        let length = *self.numbers.first().filter(|_| self.answer == 0)?;
+        self.bytes.get(..length as usize)
+    }
+}
+
+/// A number that was not written is shown as a dash.
+impl fmt::Display for Left {
+    fn fmt(&self, f: &mut fmt::Formatter) -> fmt::Result {
+        let number = |n: &u64| if *n == NUMBER { "-".to_string() } else { n.to_string() };
+        let numbers = self.numbers.iter().map(number).collect::<Vec<_>>().join(" ");
+        let bytes: String = self.bytes.iter().map(|b| format!("{b:02x}")).collect();
+        write!(f, "answer {}, numbers [{numbers}], bytes [{bytes}]", self.answer)
+    }
 }
 
 /// What a lent buffer holds before a call.
@@ -32,12 +55,14 @@ pub const NUMBER: u64 = 0xA5A5_A5A5_A5A5_A5A5;
 pub const NUMBERS: usize = 6;
 pub const CONNECTION: usize = connection::SIZE + 3;
 
+pub const STORED_VERSIONS: [StoredVersion; 2] = [StoredVersion::One, StoredVersion::Two];
+
 /// A first difference, or the number of comparisons without one.
 pub fn same(here: &Left, there: &Left, input: impl FnOnce() -> String) -> Result<(), String> {
     if here == there {
         return Ok(());
     }
-    Err(format!("{}: the library leaves {here:x?}, the second program asks for {there:x?}", input()))
+    Err(format!("{}: the library leaves {here}, the second program asks for {there}", input()))
 }
 
 pub fn hex(bytes: &[u8]) -> String {

@@ -1,5 +1,7 @@
-//! The proved library through its C interface (include/dawnhawse.h), with canaries on both sides of each buffer that it may write.
-use crate::{Left, BYTE, NUMBER};
+//! The proved library through its C interface (include/dawnhawse.h), with canaries on both sides of each buffer that it may write, and of the connections and
+//! forms that are stored, loaded and moved.
+use crate::{hex, Left, BYTE, NUMBER};
+use second::StoredVersion;
 
 extern "C" {
     fn dawnhawse_read(bytes: *const u8, bytes_len: usize, numbers: *mut u64, numbers_len: usize, connection: *mut u8, connection_len: usize) -> u32;
@@ -13,7 +15,11 @@ extern "C" {
     #[rustfmt::skip]
     fn dawnhawse_write_v2_checked(connection: *const u8, connection_len: usize, area: *const u8, area_len: usize, out: *mut u8, out_len: usize, numbers: *mut u64, numbers_len: usize) -> u32;
     fn dawnhawse_store(connection: *const u8, connection_len: usize, out: *mut u8, out_len: usize, numbers: *mut u64, numbers_len: usize) -> u32;
+    fn dawnhawse_store_v2(connection: *const u8, connection_len: usize, out: *mut u8, out_len: usize, numbers: *mut u64, numbers_len: usize) -> u32;
     fn dawnhawse_load(stored: *const u8, stored_len: usize, connection: *mut u8, connection_len: usize) -> u32;
+    fn dawnhawse_load_v2(stored: *const u8, stored_len: usize, connection: *mut u8, connection_len: usize) -> u32;
+    fn dawnhawse_forward(stored: *const u8, stored_len: usize, out: *mut u8, out_len: usize, numbers: *mut u64, numbers_len: usize) -> u32;
+    fn dawnhawse_back(stored: *const u8, stored_len: usize, out: *mut u8, out_len: usize, numbers: *mut u64, numbers_len: usize) -> u32;
     fn dawnhawse_crc32c(bytes: *const u8, bytes_len: usize) -> u32;
 }
 
@@ -51,6 +57,15 @@ fn lend(numbers_len: usize, bytes_len: usize, call: impl FnOnce(*mut u64, *mut u
     let mut bytes = Lent::new(BYTE, bytes_len);
     let answer = call(numbers.pointer(), bytes.pointer());
     Left { answer, numbers: numbers.left(), bytes: bytes.left() }
+}
+
+/// Lends bytes to be read to a call, which must leave them as they were.
+fn lend_to_read(bytes: &[u8], call: impl FnOnce(*const u8) -> Left) -> Left {
+    let mut lent = Lent::new(BYTE, bytes.len());
+    lent.all[EDGE..][..bytes.len()].copy_from_slice(bytes);
+    let left = call(lent.pointer());
+    assert!(lent.left() == bytes, "{}: bytes lent to be read were written", hex(bytes));
+    left
 }
 
 // SAFETY, of each call below: a pointer is valid for the length beside it, and what may be written overlaps nothing.
@@ -95,12 +110,29 @@ pub fn write_v2_checked(connection: &[u8], area: &[u8], room: usize, numbers_len
     })
 }
 
-pub fn store(connection: &[u8], room: usize, numbers_len: usize) -> Left {
-    lend(numbers_len, room, |numbers, out| unsafe { dawnhawse_store(connection.as_ptr(), connection.len(), out, room, numbers, numbers_len) })
+pub fn store(version: StoredVersion, connection: &[u8], room: usize, numbers_len: usize) -> Left {
+    let store = match version {
+        StoredVersion::One => dawnhawse_store,
+        StoredVersion::Two => dawnhawse_store_v2,
+    };
+    lend_to_read(connection, |lent| lend(numbers_len, room, |numbers, out| unsafe { store(lent, connection.len(), out, room, numbers, numbers_len) }))
 }
 
-pub fn load(stored: &[u8], connection_len: usize) -> Left {
-    lend(0, connection_len, |_, connection| unsafe { dawnhawse_load(stored.as_ptr(), stored.len(), connection, connection_len) })
+pub fn load(version: StoredVersion, stored: &[u8], connection_len: usize) -> Left {
+    let load = match version {
+        StoredVersion::One => dawnhawse_load,
+        StoredVersion::Two => dawnhawse_load_v2,
+    };
+    lend_to_read(stored, |lent| lend(0, connection_len, |_, connection| unsafe { load(lent, stored.len(), connection, connection_len) }))
+}
+
+/// Forward from version 1, back from version 2.
+pub fn move_from(version: StoredVersion, stored: &[u8], room: usize, numbers_len: usize) -> Left {
+    let moving = match version {
+        StoredVersion::One => dawnhawse_forward,
+        StoredVersion::Two => dawnhawse_back,
+    };
+    lend_to_read(stored, |lent| lend(numbers_len, room, |numbers, out| unsafe { moving(lent, stored.len(), out, room, numbers, numbers_len) }))
 }
 
 /// The checksum's number is its answer.

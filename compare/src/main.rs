@@ -4,7 +4,7 @@ mod programs;
 
 use compare::inputs::{self, Group};
 use compare::random::Random;
-use compare::{checked_reading, checked_writing, crc32c, hex, interface, whole};
+use compare::{checked_reading, checked_writing, crc32c, hex, interface, stored, whole};
 use std::path::{Path, PathBuf};
 
 const SEED: u64 = 0x0D0A_0D0A_000D_0A51;
@@ -27,8 +27,15 @@ fn main() {
         interface::lookups(&mut random, GENERATED / 20),
         interface::lines(&mut random, GENERATED / 40),
         interface::blocks(&mut random, GENERATED / 40),
-        interface::stored(&mut random, GENERATED / 40),
-        interface::loads(&mut random, GENERATED),
+        stored::records(&mut random, GENERATED / 20),
+        stored::forms(&mut random, GENERATED * 5),
+        stored::codes_and_states(),
+        stored::lengths(),
+        stored::buffers(),
+        stored::bytes(),
+        stored::refused_stores(),
+        stored::refused_loads(),
+        stored::refused_moves(),
         interface::kind_codes(),
         interface::states(),
         interface::buffers(),

@@ -20,6 +20,14 @@ impl Outcome {
     }
 
     /// Only the first difference is put into words: there may be millions.
+    pub fn holds(&mut self, holds: bool, difference: impl FnOnce() -> String) {
+        self.compared += 1;
+        if !holds && self.difference.is_none() {
+            self.difference = Some(difference());
+        }
+    }
+
+    /// The same of what a call leaves.
     pub fn same(&mut self, here: &Left, there: &Left, input: impl FnOnce() -> String) {
         self.compared += 1;
         if self.difference.is_none() {

@@ -1,4 +1,4 @@
-//! Records, TLV areas and stored forms at random.
+//! Records and TLV areas, listed and at random.
 use crate::connection::{self, SIZE, STATE};
 use crate::headers;
 use crate::random::Random;
@@ -39,6 +39,26 @@ pub fn any(random: &mut Random) -> [u8; SIZE] {
     bytes
 }
 
+/// Connections of zeros of every kind, and of codes that are none, in states that there are and others; clean, and with one byte set that a kind does not use.
+pub fn listed() -> Vec<Vec<u8>> {
+    let mut all = Vec::new();
+    for code in [0x00, 0x01, 0x02, 0x11, 0x12, 0x13, 0x21, 0x22, 0x31, 0x32, 0xFF] {
+        for state in [0, 1, 2, 0xFF] {
+            let mut clean = [0; SIZE];
+            clean[0] = code;
+            clean[STATE] = state;
+            all.push(clean.to_vec());
+            // The last address byte of every kind but UNIX, and a port of UNIX.
+            for unused in [108, 216, 217, 220] {
+                let mut dirty = clean;
+                dirty[unused] = 1;
+                all.push(dirty.to_vec());
+            }
+        }
+    }
+    all
+}
+
 /// A TLV area of these types, whole or damaged.
 pub fn area(types: &[u8], random: &mut Random) -> Vec<u8> {
     let mut area = Vec::new();
@@ -59,18 +79,4 @@ pub fn area(types: &[u8], random: &mut Random) -> Vec<u8> {
 /// An area that fills a header with such an address block to 65,535 bytes behind the length, or one byte more.
 pub fn longest_area(block: usize, random: &mut Random) -> Vec<u8> {
     headers::tlv(4, 65_535 - 3 - block + random.below(2))
-}
-
-/// A stored form, whole, cut, lengthened or with one of its first bytes changed.
-pub fn stored(random: &mut Random) -> Vec<u8> {
-    let mut form = vec![0; 6 + 216];
-    let n = second::store(&clean(random), &mut form).expect("a clean record and room");
-    form.truncate(n);
-    match random.below(4) {
-        0 => form.truncate(random.below(n + 1)),
-        1 => form.push(random.byte()),
-        2 => form[random.below(6)] = random.byte(),
-        _ => (),
-    }
-    form
 }

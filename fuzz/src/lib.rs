@@ -1,6 +1,6 @@
 //! A libFuzzer target: the C library and the second program on the same input. A difference ends the run.
 use compare::connection::SIZE;
-use compare::{checksum_headers, expected, hex, library, same};
+use compare::{checksum_headers, expected, hex, library, same, STORED_VERSIONS};
 
 /// # Safety
 /// As libFuzzer calls it: size bytes are lent behind data.
@@ -25,6 +25,7 @@ fn compare(input: &[u8]) -> Result<(), String> {
     };
     let number = usize::from(u16::from_be_bytes([*high, *low]));
     let (connection, area) = input.split_at(input.len().min(SIZE));
+    let [one, two] = STORED_VERSIONS;
     let (here, there) = match choice & 15 {
         0 => (library::read(input, numbers, SIZE + 3), expected::read(input, numbers, SIZE + 3)),
         1 => (library::next(input, number, numbers), expected::next(input, number, numbers)),
@@ -32,11 +33,15 @@ fn compare(input: &[u8]) -> Result<(), String> {
         3 => (library::lookup(input, *high, usize::from(*low), numbers), expected::lookup(input, *high, usize::from(*low), numbers)),
         4 => (library::write_v1(input, number, numbers), expected::write_v1(input, number, numbers)),
         5 => (library::write_v2(connection, area, number, numbers), expected::write_v2(connection, area, number, numbers)),
-        6 => (library::store(input, number, numbers), expected::store(input, number, numbers)),
-        7 => (library::load(input, SIZE), expected::load(input, SIZE)),
+        6 => (library::store(one, input, number, numbers), expected::store(one, input, number, numbers)),
+        7 => (library::load(one, input, SIZE), expected::load(one, input, SIZE)),
         8 => (library::read_checked(input, numbers, SIZE + 3), expected::read_checked(input, numbers, SIZE + 3)),
         9 => (library::write_v2_checked(connection, area, number, numbers), expected::write_v2_checked(connection, area, number, numbers)),
         10 => (library::crc32c(input), expected::crc32c(input)),
+        11 => (library::store(two, input, number, numbers), expected::store(two, input, number, numbers)),
+        12 => (library::load(two, input, SIZE), expected::load(two, input, SIZE)),
+        13 => (library::move_from(one, input, number, numbers), expected::move_from(one, input, number, numbers)),
+        14 => (library::move_from(two, input, number, numbers), expected::move_from(two, input, number, numbers)),
         // Right checksums would hardly be guessed.
         _ => {
             let input = &checksum_headers::righted(input);

@@ -17,8 +17,9 @@
 //!   header, and with which values. An accepted header gets its values here.
 //!
 //! The writers and the stored form build all bytes first and then write them,
-//! or refuse. TLVs are looked into by their list, which is found from the
-//! area's end.
+//! or refuse. Stored forms (document 02, K7) are read by a list of all they can
+//! begin with. TLVs are looked into by their list, which is found from the area's
+//! end.
 //!
 //! The checksum (document 02, K6) is the remainder of a division, bit by bit, of
 //! a copy of the header with zeros in place of the value.
@@ -49,7 +50,7 @@ pub use crc32c::crc32c;
 pub use judge::{judge, Judge};
 pub use lookup::{lookup, Answer, Lookup};
 pub use record::{Checksum, Kind, Record, Transport};
-pub use stored::{load, store};
+pub use stored::{back, forward, load, store, StoredVersion};
 pub use tlv_area::{next, step, tlv_list, Step};
 pub use verdict::{Header, Verdict};
 pub use whole::whole_header;

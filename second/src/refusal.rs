@@ -21,3 +21,7 @@ pub const STORED_LENGTH: u8 = 18;
 
 /// A whole header's checksum is wrong.
 pub const WRONG_CHECKSUM: u8 = 23;
+
+/// The state of a stored form is none or stands beside a kind that cannot have it,
+/// or the version has no form for it.
+pub const STORED_STATE: u8 = 24;

@@ -1,5 +1,5 @@
 //! What a record must not hold where it is written, on pain of 11 (document 01,
-//! Numbered answers, and document 02, K6).
+//! Numbered answers, and document 02, K6 and K7).
 
 use crate::address_block::{address_block, record_of_block};
 use crate::record::{Checksum, Record};
@@ -10,8 +10,8 @@ pub fn only_its_block(record: &Record) -> bool {
     record_of_block(record.kind, &address_block(record)) == *record
 }
 
-/// The same where a checksum will be written: then either state is taken, but
-/// beside local and unspecified matched never is.
+/// The same where a checksum will be written, and for stored forms: there either
+/// state is taken, but beside local and unspecified matched never is.
 pub fn only_its_block_and_checksum(record: &Record) -> bool {
     let mut without = record.clone();
     if record.kind.has_addresses() {

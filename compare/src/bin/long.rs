@@ -1,7 +1,7 @@
 //! The long run: the C library against the second program until so many inputs are compared. A round's seed is printed with a difference.
 //! Usage: long HOW-MANY [FIRST-SEED]
 use compare::random::Random;
-use compare::{checked_reading, checked_writing, crc32c, headers, inputs, interface, whole};
+use compare::{checked_reading, checked_writing, crc32c, headers, inputs, interface, stored, whole};
 use std::time::{Duration, Instant};
 
 /// Headers read, and areas and records made, in a round.
@@ -48,8 +48,8 @@ fn round(short: &[Vec<u8>], seed: u64) -> Vec<(usize, Option<String>)> {
         interface::lookups(&mut random, MADE),
         interface::lines(&mut random, MADE),
         interface::blocks(&mut random, MADE),
-        interface::stored(&mut random, MADE),
-        interface::loads(&mut random, READ),
+        stored::records(&mut random, MADE),
+        stored::forms(&mut random, READ),
         crc32c::generated(&mut random, MADE),
         checked_reading::generated(&mut random, READ),
         checked_writing::generated(&mut random, MADE),
