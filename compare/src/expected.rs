@@ -108,7 +108,7 @@ fn written(room: usize, numbers_len: usize, write: impl FnOnce(&mut [u8]) -> Res
     match write(&mut out) {
         Ok(_) if numbers_len < 4 => untouched(NO_ROOM, numbers_len, room),
         Ok(length) => told(0, [length as u64, 0, 0, 0], numbers_len, out),
-        Err(number) => untouched(number, numbers_len, room),
+        Err(number) => Left { answer: number, numbers: vec![NUMBER; numbers_len], bytes: out },
     }
 }
 

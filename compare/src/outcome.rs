@@ -19,7 +19,7 @@ impl Outcome {
         self.difference = self.difference.take().or(result.err());
     }
 
-    /// Only the first difference is put into words: there may be millions.
+    /// Counts a comparison. Only the first that does not hold is put into words: there may be millions.
     pub fn holds(&mut self, holds: bool, difference: impl FnOnce() -> String) {
         self.compared += 1;
         if !holds && self.difference.is_none() {

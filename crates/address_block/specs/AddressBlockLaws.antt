@@ -89,7 +89,7 @@ made-again r sized plain =
     (held-again (r .kind) (r .destination) (sized .destination) (plain .clean .destination)) refl refl (sym (plain .absent))
 
 -- ── ports ──
-number-again : (f g : List ℕ) (n i : ℕ) → length f ≡ i → numberAt (f ++ network n ++ g) i ≡ n
+pub number-again : (f g : List ℕ) (n i : ℕ) → length f ≡ i → numberAt (f ++ network n ++ g) i ≡ n
 number-again f g n i size =
     let rest = n / 256 ∷ n % 256 ∷ g in
     let here : length f + 0 ≡ i = omega arith in

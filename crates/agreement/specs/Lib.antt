@@ -1,2 +1,3 @@
 pub mod Tlvs
 pub mod Checked
+pub mod Stored

@@ -7,13 +7,13 @@ use stored_form::StoredVersion;
 ghost use mathlib.Core.Path.{_≡_};
 ghost use lib.ListN.{length};
 ghost use Rattle.answer.specs.Answers.{outputAfter};
-ghost use Rattle.stored_form.specs.Converting.{converted, convertAnswer, toldConverted, AsStored, GoesBack};
+ghost use Rattle.stored_form.specs.Converting.{converted, convertAnswer, toldConverted, LoadThenStore, GoesBack};
 
 // Writes the form that the bytes are in one version as the form of another: how many bytes, or why the output stays as it was.
 pub fn convert(s: &[u8], from: StoredVersion, to: StoredVersion, out: &mut [u8]) -> Converted
     ensures { λ r. ⌜ (toldConverted r ≡ convertAnswer from to (now (s .entry)) (length (now (out .entry))))
         × (now (out .exit) ≡ outputAfter (convertAnswer from to (now (s .entry)) (length (now (out .entry)))) (converted from to (now (s .entry))) (now (out .entry)))
-        × AsStored from to (now (s .entry)) (now (out .entry)) (toldConverted r) (now (out .exit))
+        × LoadThenStore from to (now (s .entry)) (now (out .entry)) (toldConverted r) (now (out .exit))
         × GoesBack from to (now (s .entry)) (toldConverted r) (now (out .exit)) ⌝ }
 {
     let loaded = load(s, from);

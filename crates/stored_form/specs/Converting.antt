@@ -1,4 +1,4 @@
--- What moving stored bytes from one version to the other answers and writes (document 02, K7).
+-- What moving stored bytes from one version to the other answers and writes (document 02, K7: "moving forward", "moving back"); in code it is a conversion.
 use mathlib.Core.Path.{_≡_, refl}
 use mathlib.Core.List.{List, _∷_, _++_}
 use mathlib.Core.Option.{Option, some, none}
@@ -21,7 +21,7 @@ abbrev pub stateSaid : Option Checksum → Checksum
 stateSaid (some c) = c
 stateSaid none = Absent
 
--- the bytes in the other version: its version bytes, the kind code, the state where the version has one, and the address block as it stands
+-- the bytes in a version: the mark, its version bytes, the kind code, the state where the version has one, and the address block as it stands
 unfoldable pub converted : (from to : StoredVersion) → List ℕ → List ℕ
 converted from to s = mark ++ versionBytes to ++ getD s 5 0 ∷ stateBytes to (stateSaid (stateIn from s)) ++ drop (headLength from) s
 
@@ -49,11 +49,12 @@ toldConverted (Stored w) = toldWritten w
 toldConverted (Invalid flaw) = refuses (flawNumber flaw)
 
 -- ── what the answers mean ──
--- the answer and the output are those of loading in one version and storing in the other
-abbrev pub AsStored : (from to : StoredVersion) (s before : List ℕ) → WriteAnswer → List ℕ → Type 0
-AsStored from to s before answer after =
-    (r : Record) → loadAnswer from s ≡ loads r
-    → (answer ≡ storeAnswer to r (length before)) × (after ≡ outputAfter (storeAnswer to r (length before)) (stored to r) before)
+-- the answer and the output are those of loading in one version and storing in the other: "An invalid input first gives its reader's number"
+abbrev pub LoadThenStore : (from to : StoredVersion) (s before : List ℕ) → WriteAnswer → List ℕ → Type 0
+LoadThenStore from to s before answer after =
+    ((k : ℕ) → loadAnswer from s ≡ noRecord k → (answer ≡ refuses k) × (after ≡ before))
+    × ((r : Record) → loadAnswer from s ≡ loads r
+    → (answer ≡ storeAnswer to r (length before)) × (after ≡ outputAfter (storeAnswer to r (length before)) (stored to r) before))
 
 -- the bytes t in the other version go back to the bytes s
 abbrev pub Returns : (from to : StoredVersion) (s t : List ℕ) (room : ℕ) → Type 0

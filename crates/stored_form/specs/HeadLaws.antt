@@ -1,4 +1,4 @@
--- For proofs. What a head says, and which bytes begin with one: the only place where the two versions are told apart.
+-- For proofs. What a head says, and which bytes begin with one: the only laws with a case for each version.
 use mathlib.Core.Path.{_≡_, refl, sym, ap, _∙_}
 use mathlib.Core.Bool.{true}
 use mathlib.Core.List.{List, [], _∷_, _++_}

@@ -5,10 +5,11 @@ use mathlib.Core.List.{List, _∷_, _++_}
 use mathlib.Core.Option.{Option}
 use Prim.Native.Nat.{ℕ, suc, _≤_}
 use native.Mathlib.Omega.{arith}
-use borrow.Author.Tests.{le-leb}
+use borrow.Author.Tests.{le-leb, ltb-true, ltb-false}
+use lib.Dec.{ltb}
 use lib.ListN.{length, getD}
 use Rattle.exact.specs.Claim.{AllBytes}
-use Rattle.exact.specs.Pick.{pick}
+use Rattle.exact.specs.Pick.{pick, pick-by}
 use Rattle.record.specs.declared.Checksum.{Checksum}
 use Rattle.record.specs.declared.Checksum.the-variants.{Absent, Matched}
 use Rattle.record.specs.declared.Record.{Record}
@@ -23,8 +24,9 @@ use Rattle.stored_form.specs.HeadLaws.{keeps-test, head-state, behind-he
 use Rattle.stored_form.specs.Stored.{stored, keptAnswer, storeAnswer}
 use Rattle.stored_form.specs.Loading.{LoadAnswer, loads, noRecord, loadAnswer}
 use Rattle.stored_form.specs.Meaning.{Form}
-use Rattle.stored_form.specs.RoundTrip.{stored-length, load-stored, load-again, store-written}
-use Rattle.stored_form.specs.Converting.{stateSaid, converted, convertBy, convertAnswer, AsStored, Returns, GoesBack}
+use Rattle.stored_form.specs.LoadLaws.{answer-short, answer-version}
+use Rattle.stored_form.specs.RoundTrip.{stored-length, load-stored, load-again, not-wrote, store-written}
+use Rattle.stored_form.specs.Converting.{stateSaid, converted, convertBy, convertAnswer, LoadThenStore, Returns, GoesBack}
 
 -- ── a stored form, moved ──
 form-converted : (from to : StoredVersion) (r : Record) → Keeps from (r .checksum) → converted from to (stored from r) ≡ stored to r
@@ -71,16 +73,13 @@ returns from to s r form kept room long =
       converted-stored to from (stored to r) r other ∙ form .same,
     )
 
-not-wrote : (k n : ℕ) {A : Type 0} → refuses k ≡ wrote n → A
-not-wrote k n e = let z : _≡_ {A = ℕ} 0 1 = cc in absurd (omega arith)
-
 module _ (from to : StoredVersion) (s : List ℕ) (bytes : AllBytes s) where
   -- what was accepted was a stored form, and the other version can say its state
   was-form : (n room : ℕ) → convertAnswer from to s room ≡ wrote n → (r : Record) × (Form from s r × Keeps to (r .checksum) × (length (stored to r) ≡ n))
   was-form n room is = by (loadAnswer from s) refl
     where
       by : (l : LoadAnswer) → loadAnswer from s ≡ l → (r : Record) × (Form from s r × Keeps to (r .checksum) × (length (stored to r) ≡ n))
-      by (noRecord k) e = not-wrote k n (ap (λ (m : LoadAnswer). convertBy m to (length (converted from to s)) room) (sym e) ∙ is)
+      by (noRecord k) e = not-wrote _ n (ap (λ (m : LoadAnswer). convertBy m to (length (converted from to s)) room) (sym e) ∙ is)
       by (loads r) e =
           let form = load-again from s bytes r e in
           let w = store-written to r room (form .sized) n (sym (answer-stored from to s r form room) ∙ is) in
@@ -91,11 +90,16 @@ module _ (from to : StoredVersion) (s : List ℕ) (bytes : AllBytes s) where
 
   -- ── what the promise of a conversion says ──
   module _ (before after : List ℕ) (output : after ≡ outputAfter (convertAnswer from to s (length before)) (converted from to s) before) where
-    pub as-stored : AsStored from to s before (convertAnswer from to s (length before)) after
-    as-stored r valid =
-        let form = load-again from s bytes r valid in
-        let same = answer-stored from to s r form (length before) in
-        (same, output ∙ ap₂ (λ (a : WriteAnswer) (t : List ℕ). outputAfter a t before) same (converted-stored from to s r form))
+    pub load-then-store : LoadThenStore from to s before (convertAnswer from to s (length before)) after
+    load-then-store = (
+      λ k invalid.
+          let same = ap (λ (l : LoadAnswer). convertBy l to (length (converted from to s)) (length before)) invalid in
+          (same, output ∙ ap (λ (a : WriteAnswer). outputAfter a (converted from to s) before) same),
+      λ r valid.
+          let form = load-again from s bytes r valid in
+          let same = answer-stored from to s r form (length before) in
+          (same, output ∙ ap₂ (λ (a : WriteAnswer) (t : List ℕ). outputAfter a t before) same (converted-stored from to s r form)),
+    )
 
     pub goes-back : GoesBack from to s (convertAnswer from to s (length before)) after
     goes-back n room is long =
@@ -137,3 +141,21 @@ module _ (s : List ℕ) (bytes : AllBytes s) (r : Record) where
 pub back-and-forward : (s : List ℕ) → AllBytes s → (n room room′ : ℕ) → convertAnswer Two One s room ≡ wrote n → length s ≤ room′
     → Returns Two One s (converted Two One s) room′
 back-and-forward s bytes = there-and-back Two One s bytes
+
+-- ── a form of the other version ──
+-- version 1's reader knows each form of version 2 by its version
+pub two-for-one : (s : List ℕ) (r : Record) → Form Two s r → loadAnswer One s ≡ noRecord 16
+unfolding stored
+two-for-one s r form =
+    let size = stored-length Two r (form .sized) in
+    ap (loadAnswer One) (sym (form .same)) ∙ answer-version One (stored Two r) (omega arith) refl refl
+
+-- version 2's knows each form of version 1 so, but for one of six bytes, which is too short
+pub one-for-two : (s : List ℕ) (r : Record) → Form One s r → loadAnswer Two s ≡ noRecord (pick (ltb (length s) 7) 18 16)
+unfolding stored
+one-for-two s r form =
+    pick-by (λ (k : ℕ). loadAnswer Two s ≡ noRecord k) (ltb (length s) 7) (λ t. answer-short Two s (ltb-true (length s) 7 t))
+    (λ t.
+    let size = ap length (form .same) in
+    let long = ltb-false (length s) 7 t in
+    ap (loadAnswer Two) (sym (form .same)) ∙ answer-version Two (stored One r) (omega arith) refl refl)

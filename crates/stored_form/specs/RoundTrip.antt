@@ -139,8 +139,11 @@ module _ (v : StoredVersion) (s : List ℕ) (bytes : AllBytes s) where
           refused k (λ r form. not-loaded k r (sym e ∙ ap (loadAnswer v) (sym (form .same)) ∙ load-stored v r (form .sized) (form .storable)))
 
 -- ── the writer ──
-not-true : {A : Type 0} (b : Bool) → b ≡ true → b ≡ false → A
-not-true b e f = let z : _≡_ {A = ℕ} 0 1 = cc in absurd (omega arith)
+pub not-wrote : (k n : ℕ) {A : Type 0} → refuses k ≡ wrote n → A
+not-wrote k n e = let z : _≡_ {A = ℕ} 0 1 = cc in absurd (omega arith)
+
+not-both : {A : Type 0} (b : Bool) → b ≡ true → b ≡ false → A
+not-both b e f = let z : _≡_ {A = ℕ} 0 1 = cc in absurd (omega arith)
 
 module _ (v : StoredVersion) (r : Record) (room : ℕ) (sized : Sized r) where
   pub answer-means : Means v r room (storeAnswer v r room)
@@ -154,15 +157,15 @@ module _ (v : StoredVersion) (r : Record) (room : ℕ) (sized : Sized r) where
       (λ t₂.
       let fits : Storable v r = record { clean = clean; kept = keeps-test v c .0 t₂ } in
       pick-by P (leb (length (stored v r)) room) (λ t. written fits (leb-true _ _ t)) (λ t. too-short fits (leb-false _ _ t)))
-      (λ t₂. not-kept clean (λ kept. not-true _ (keeps-test v c .1 kept) t₂)))
-      (λ t₁. unused (λ clean. not-true _ (clean-test r sized .1 clean) t₁))
+      (λ t₂. not-kept clean (λ kept. not-both _ (keeps-test v c .1 kept) t₂)))
+      (λ t₁. unused (λ clean. not-both _ (clean-test r sized .1 clean) t₁))
 
   -- what it accepts can be stored and fits, and the answer is its length
   pub store-written : (n : ℕ) → storeAnswer v r room ≡ wrote n → Storable v r × (length (stored v r) ≡ n) × (n ≤ room)
   store-written n e = by (storeAnswer v r room) e answer-means
     where
       by : (a : WriteAnswer) → a ≡ wrote n → Means v r room a → Storable v r × (length (stored v r) ≡ n) × (n ≤ room)
-      by (refuses k) q m = let z : _≡_ {A = ℕ} 0 1 = cc in absurd (omega arith)
+      by (refuses k) q m = not-wrote k n q
       by (wrote m) q (written fits room′) = let size : length (stored v r) ≡ n = cc in (fits, size, omega arith)
 
 pub loads-back : (v : StoredVersion) (r : Record) (before after : List ℕ) → Sized r

@@ -1,15 +1,15 @@
--- Stored bytes and what is answered, worked out by hand from documents 01 and 02, as computed tests of the definitions. Rows that are refused have faults
--- of later checks too, so that the order shows.
+-- Stored bytes and what is answered, worked out by hand from documents 01 and 02, as computed tests of the definitions. Most rows that are refused have
+-- faults of later checks too, so that the order shows.
 use mathlib.Core.Path.{_≡_, refl}
 use mathlib.Core.List.{List, [], _∷_, map}
 use Prim.Native.Nat.{ℕ}
 use Rattle.record.specs.declared.Transport.the-variants.{Stream}
-use Rattle.record.specs.declared.Kind.the-variants.{Ip4}
+use Rattle.record.specs.declared.Kind.the-variants.{Local, Unspecified, Ip4}
 use Rattle.record.specs.declared.Checksum.{Checksum}
 use Rattle.record.specs.declared.Checksum.the-variants.{Absent, Matched}
 use Rattle.record.specs.declared.Record.{Record}
-use Rattle.record.specs.Records.{recordOf, withChecksum}
-use Rattle.answer.specs.Answers.{wrote, refuses}
+use Rattle.record.specs.Records.{recordOf, withChecksum, bare}
+use Rattle.answer.specs.Answers.{WriteAnswer, wrote, refuses}
 use Rattle.stored_form.specs.declared.StoredVersion.{StoredVersion}
 use Rattle.stored_form.specs.declared.StoredVersion.the-variants.{One, Two}
 use Rattle.stored_form.specs.Stored.{stored, storeAnswer}
@@ -54,6 +54,16 @@ version-2 =
 pub order-2 : refusals Two version-2 ≡ numbers version-2
 order-2 = refl
 
+-- "An invalid input first gives its reader's number": into no room at all
+abbrev pub moves : (from to : StoredVersion) → List Row → List WriteAnswer
+moves from to = map (λ (r : Row). convertAnswer from to (r .bytes) 0)
+
+abbrev pub refused : List Row → List WriteAnswer
+refused = map (λ (r : Row). refuses (r .number))
+
+pub invalid-first : (moves One Two version-1 ≡ refused version-1) × (moves Two One version-2 ≡ refused version-2)
+invalid-first = (refl, refl)
+
 -- ── one record in both versions ──
 -- 192.168.0.1 to 192.168.0.11, port 56324 to port 443
 abbrev block : List ℕ
@@ -76,7 +86,12 @@ pub read-again : (loadAnswer One one ≡ loads (caller Absent)) × (loadAnswer T
     × (loadAnswer Two (two 0x01) ≡ loads (caller Matched))
 read-again = (refl, refl, refl)
 
--- version 1's writer: 24 "between 11 and 14"
+-- "every writer keeps 11 for it": matched beside local or unspecified, before 24 and 14
+pub unused-first : (storeAnswer One (withChecksum Matched (bare Local)) 0 ≡ refuses 11) × (storeAnswer Two (withChecksum Matched (bare Unspecified)) 0 ≡ refuses 11)
+unfolding stored
+unused-first = (refl, refl)
+
+-- version 1's writer: 24 before 14
 pub matched-refused : (storeAnswer One (caller Matched) 17 ≡ refuses 24) × (storeAnswer One (caller Absent) 17 ≡ refuses 14) × (storeAnswer One (caller Absent) 18 ≡ wrote 18)
 unfolding stored
 matched-refused = (refl, refl, refl)

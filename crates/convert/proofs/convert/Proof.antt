@@ -15,8 +15,8 @@ use Rattle.stored_form.specs.declared.Converted.{Converted}
 use Rattle.stored_form.specs.declared.Converted.the-variants.{Stored, Invalid}
 use Rattle.stored_form.specs.Loading.{LoadAnswer, toldOutcome, loadAnswer}
 use Rattle.stored_form.specs.RoundTrip.{load-again}
-use Rattle.stored_form.specs.Converting.{converted, convertBy, convertAnswer, toldConverted, AsStored, GoesBack}
-use Rattle.stored_form.specs.Moving.{converted-stored, answer-stored, as-stored, goes-back}
+use Rattle.stored_form.specs.Converting.{converted, convertBy, convertAnswer, toldConverted, LoadThenStore, GoesBack}
+use Rattle.stored_form.specs.Moving.{converted-stored, answer-stored, load-then-store, goes-back}
 use Rattle.convert.proofs.convert.Statement.{statement}
 use Rattle.convert.proofs.convert.Tie as tie
 
@@ -53,12 +53,12 @@ module _ (c : tie.After-load) where
 
   -- an answer and an output as defined are what is promised
   promise : (x : Converted) (after : List ℕ) → toldConverted x ≡ answer → after ≡ outputAfter answer text out
-      → (toldConverted x ≡ answer) × (after ≡ outputAfter answer text out) × AsStored from to bytes out (toldConverted x) after
+      → (toldConverted x ≡ answer) × (after ≡ outputAfter answer text out) × LoadThenStore from to bytes out (toldConverted x) after
       × GoesBack from to bytes (toldConverted x) after
   promise x after told output = (
     told,
     output,
-    subst (λ (a : WriteAnswer). AsStored from to bytes out a after) (sym told) (as-stored from to bytes all-bytes out after output),
+    subst (λ (a : WriteAnswer). LoadThenStore from to bytes out a after) (sym told) (load-then-store from to bytes all-bytes out after output),
     subst (λ (a : WriteAnswer). GoesBack from to bytes a after) (sym told) (goes-back from to bytes all-bytes out after output),
   )
 
