@@ -1,13 +1,13 @@
 -- Document 02, K7, as C callers see it: moving a stored form leaves what storing leaves of the connection that loading gives (include/dawnhawse.h).
 use mathlib.Core.Path.{_≡_, sym, ap, _∙_, subst}
-use mathlib.Core.List.{List, [], _++_, append-nil}
+use mathlib.Core.List.{List}
 use mathlib.Core.Logic.{_↔_}
-use Prim.Native.Nat.{ℕ, _≤_}
+use Prim.Native.Nat.{ℕ}
 use native.Mathlib.Omega.{arith}
-use lib.ListN.{length, drop, drop-of-length-le}
+use lib.ListN.{length}
 use Rattle.exact.specs.Claim.{AllBytes}
 use Rattle.lent.specs.Buffers.{over, toldIn}
-use Rattle.lent.specs.BufferLaws.{roomy}
+use Rattle.lent.specs.BufferLaws.{roomy, over-all}
 use Rattle.record.specs.declared.Record.{Record}
 use Rattle.record.specs.Records.{Sized}
 use Rattle.answer.specs.Answers.{WriteAnswer}
@@ -30,11 +30,8 @@ connection-told : (r : Record) (connection : List ℕ) → Sized r → length co
     → toldIn connectionSize (connectionBytes r) connection ≡ connectionBytes r
 connection-told r connection sized size =
     let all = connection-size r sized in
-    let within : length connection ≤ length (connectionBytes r) = omega arith in
-    let none-left : drop (length (connectionBytes r)) connection ≡ [] = drop-of-length-le connection within in
     sym (roomy connectionSize connection (over (connectionBytes r) connection) connection (omega arith))
-    ∙ ap (λ (l : List ℕ). connectionBytes r ++ l) none-left
-    ∙ append-nil (connectionBytes r)
+    ∙ over-all (connectionBytes r) connection (omega arith)
 
 -- s: a form of the version `from`; told: the connection that `dawnhawse_load` or `dawnhawse_load_v2` left in 222 bytes, as it promises
 pub moved-as-stored : (from to : StoredVersion) (s : List ℕ) → AllBytes s → (r : Record) → loadAnswer from s ≡ loads r

@@ -9,6 +9,9 @@ use lib.Seq.{take-at}
 use Rattle.answer.specs.declared.Written.{Written}
 use Rattle.answer.specs.Answers.{WriteAnswer, wrote, refuses, toldWritten, isWritten, outputAfter}
 
+pub not-wrote : (k n : ℕ) {A : Type 0} → refuses k ≡ wrote n → A
+not-wrote k n e = let z : _≡_ {A = ℕ} 0 1 = cc in absurd (omega arith)
+
 module _ (answer : WriteAnswer) (w : Written) (told : toldWritten w ≡ answer) {b : Bool} (is : b ≡ isWritten (toldWritten w)) where
   same : b ≡ isWritten answer
   same = is ∙ ap isWritten told

@@ -1,7 +1,7 @@
 -- Demand 2 of document 01 for version 2: what the writer writes reads back as the record and the TLV area, and it refuses exactly what version 2
 -- cannot carry and the outputs that are too short.
 use mathlib.Core.Path.{_≡_, refl, sym, _∙_, subst}
-use mathlib.Core.Bool.{true, false}
+use mathlib.Core.Bool.{true}
 use mathlib.Core.List.{List, _++_}
 use mathlib.Core.Logic.{inr}
 use Prim.Native.Nat.{ℕ, _≤_, _<_}
@@ -10,6 +10,7 @@ use lib.ListN.{length, take, length-append}
 use lib.Seq.{take-append-seam}
 use borrow.Author.Tests.{le-leb, lt-ltb}
 use Rattle.exact.specs.Claim.{Verdict, accepted}
+use Rattle.exact.specs.Pick.{never}
 use Rattle.tlv.specs.Tlv.{Tlv, Area as AreaOf}
 use Rattle.tlv.specs.Laws.{area-one}
 use Rattle.record.specs.declared.Record.{Record}
@@ -22,7 +23,7 @@ use Rattle.fields.specs.BlockFields.{blocked}
 use Rattle.fields.specs.Exactness.{judges-only}
 use Rattle.fields.specs.Facts.{header-length}
 use Rattle.answer.specs.Answers.{WriteAnswer, wrote, refuses, outputAfter}
-use Rattle.answer.specs.OutputLaws.{written-front}
+use Rattle.answer.specs.OutputLaws.{not-wrote, written-front}
 use Rattle.block_writer.specs.Areas.{AreaFits, areaTest}
 use Rattle.block_writer.specs.AreaLaws.{area-test}
 use Rattle.block_writer.specs.Written.{blockOf, writtenBlock, CarriedByBlock, blockAnswer}
@@ -71,9 +72,6 @@ answer-means r area room sized =
         let f = area-test (r .kind) area .0 fits in
         record { sized = sized; plain = plain-test r sized .0 test; tlvs = f .0; beside = f .1; small = small }
 
-    never : false ≡ true → ⊥
-    never e = let z : _≡_ {A = ℕ} 0 1 = cc in omega arith
-
 -- it writes what version 2 can carry, where there is room
 pub block-written : (r : Record) (area : List ℕ) (room : ℕ) → CarriedByBlock r area → length (writtenBlock r area) ≤ room
     → blockAnswer r area room ≡ wrote (length (writtenBlock r area))
@@ -91,7 +89,7 @@ pub block-accepted : (r : Record) (area : List ℕ) (room n : ℕ) → Sized r �
 block-accepted r area room n sized e = by (blockAnswer r area room) e (answer-means r area room sized)
   where
     by : (a : WriteAnswer) → a ≡ wrote n → Means r area room a → CarriedByBlock r area × (length (writtenBlock r area) ≡ n) × (n ≤ room)
-    by (refuses k) q m = let z : _≡_ {A = ℕ} 0 1 = cc in absurd (omega arith)
+    by (refuses k) q m = not-wrote k n q
     by (wrote m) q (written w fits) = let size : length (writtenBlock r area) ≡ n = cc in (w, size, omega arith)
 
 -- the whole demand: whatever the writer accepts, what it wrote is read back as that record and that area, with any bytes behind it, and its length

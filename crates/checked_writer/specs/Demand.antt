@@ -1,7 +1,7 @@
 -- What the writer with a checksum writes is, by a checked reading, the same record with matched and the same area with seven bytes at its end (document
 -- 02, K6); and it refuses exactly what version 2 cannot carry with a checksum and the outputs that are too short.
 use mathlib.Core.Path.{_≡_, refl, sym, ap, ap₂, _∙_, subst}
-use mathlib.Core.Bool.{true, false}
+use mathlib.Core.Bool.{true}
 use mathlib.Core.List.{List, [], _∷_, _++_, append-assoc, append-nil}
 use Prim.Native.Nat.{ℕ, _+_, _≤_, _<_}
 use native.Mathlib.Omega.{arith}
@@ -9,6 +9,7 @@ use lib.ListN.{length, take, replicate, length-append}
 use lib.Seq.{take-append-seam}
 use borrow.Author.Tests.{le-leb, lt-ltb}
 use Rattle.exact.specs.Claim.{accepted}
+use Rattle.exact.specs.Pick.{never}
 use Rattle.tlv.specs.Tlv.{Tlv, tlvBytes, written as writtenTlvs, Area}
 use Rattle.tlv.specs.Laws.{one-area, written-append, area-append}
 use Rattle.tlv.specs.Listed.{tlvsOf, tlvs-of}
@@ -24,7 +25,7 @@ use Rattle.header.specs.Demand.{Judges}
 use Rattle.head_writer.specs.Head.{headOf}
 use Rattle.fields.specs.BlockFields.{blocked}
 use Rattle.answer.specs.Answers.{WriteAnswer, wrote, refuses, outputAfter}
-use Rattle.answer.specs.OutputLaws.{written-front}
+use Rattle.answer.specs.OutputLaws.{not-wrote, written-front}
 use Rattle.checksum.specs.Checksum.{valuesOf, zeroed, checksumOf, Right}
 use Rattle.checksum.specs.ChecksumLaws.{values-append, zeroed-one, checksum-parts}
 use Rattle.checksum.specs.Checked.{judged, Checks, matched}
@@ -142,9 +143,6 @@ answer-means r area room sized =
     carries test fits small =
         record { sized = sized; clean = clean-test r sized .0 test; fits = request-test (r .kind) area .0 fits; small = small }
 
-    never : false ≡ true → ⊥
-    never e = let z : _≡_ {A = ℕ} 0 1 = cc in omega arith
-
 -- it writes what version 2 can carry with a checksum, where there is room
 pub checked-written : (r : Record) (area : List ℕ) (room : ℕ) → CarriedChecked r area → length (writtenChecked r area) ≤ room
     → checkedAnswer r area room ≡ wrote (length (writtenChecked r area))
@@ -162,7 +160,7 @@ pub checked-accepted : (r : Record) (area : List ℕ) (room n : ℕ) → Sized r
 checked-accepted r area room n sized e = by (checkedAnswer r area room) e (answer-means r area room sized)
   where
     by : (a : WriteAnswer) → a ≡ wrote n → Means r area room a → CarriedChecked r area × (length (writtenChecked r area) ≡ n) × (n ≤ room)
-    by (refuses k) q m = let z : _≡_ {A = ℕ} 0 1 = cc in absurd (omega arith)
+    by (refuses k) q m = not-wrote k n q
     by (wrote m) q (written w fits) = let size : length (writtenChecked r area) ≡ n = cc in (w, size, omega arith)
 
 -- "a checked reading gives matched": of the n bytes that the writer answers, with any bytes behind them, it gives the same record with matched, and the

@@ -11,7 +11,7 @@ use borrow.Author.Tests.{eqb-true}
 use Rattle.exact.specs.Claim.{AllBytes}
 use Rattle.exact.specs.Field.{Field, Begins, Opens, least-opens, seq}
 use Rattle.exact.specs.Machine.{leaf}
-use Rattle.exact.specs.Pick.{pick, both}
+use Rattle.exact.specs.Pick.{pick, never, both}
 use Rattle.exact.specs.Parser.{Parser, Starts, just, either}
 use Rattle.exact.specs.Unique.{unique}
 use Rattle.exact.specs.Sequence.{fronts}
@@ -111,9 +111,6 @@ module _ (number : List ℕ → ℕ) where
           by [] e l = solid _ l
           by (c ∷ f) e l = let z : _≡_ {A = ℕ} 0 1 = cc in omega arith
 
-      never : (b : Bool) → b ≡ true → b ≡ false → ⊥
-      never b p q = let z : _≡_ {A = ℕ} 0 1 = cc in omega arith
-
       here : (k : ℕ) → P .field .at [] k ⊎ Q .field .at [] k → k ≡ number (before ++ [])
       here k (inl x) = num-P [] k (least-opens (P .opens)) (none-at (P .field) (st-P .solid)) x
       here k (inr x) = num-Q [] k (least-opens (Q .opens)) (none-at (Q .field) (st-Q .solid)) x
@@ -126,7 +123,7 @@ module _ (number : List ℕ → ℕ) where
           record {
             tail = o .tail;
             value = o .value;
-            whole = ⊎-elim (λ l. l) (λ l. absurd (never (first c) e (st-Q .head c (u ++ o .tail) _ l))) (o .whole);
+            whole = ⊎-elim (λ l. l) (λ l. never (sym (st-Q .head c (u ++ o .tail) _ l) ∙ e)) (o .whole);
           }
 
       opens-Q : (c : ℕ) (u : List ℕ) → first c ≡ false → Opens H (c ∷ u) → Opens (Q .field) (c ∷ u)
@@ -134,7 +131,7 @@ module _ (number : List ℕ → ℕ) where
           record {
             tail = o .tail;
             value = o .value;
-            whole = ⊎-elim (λ l. absurd (never (first c) (st-P .head c (u ++ o .tail) _ l) e)) (λ l. l) (o .whole);
+            whole = ⊎-elim (λ l. never (sym e ∙ st-P .head c (u ++ o .tail) _ l)) (λ l. l) (o .whole);
           }
 
       later : (b : Bool) (c : ℕ) (u : List ℕ) (k : ℕ) → first c ≡ b → Opens H (c ∷ u) → (Begins H (c ∷ u) → ⊥)

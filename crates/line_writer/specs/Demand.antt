@@ -1,7 +1,7 @@
 -- Demand 2 of document 01 for version 1: what the writer writes reads back as the record, and it refuses exactly the records that version 1 cannot carry
 -- and the outputs that are too short.
 use mathlib.Core.Path.{_≡_, refl, sym, _∙_, subst}
-use mathlib.Core.Bool.{true, false}
+use mathlib.Core.Bool.{true}
 use mathlib.Core.List.{List, _++_}
 use mathlib.Core.Logic.{inl}
 use Prim.Native.Nat.{ℕ, _≤_, _<_}
@@ -11,7 +11,7 @@ use lib.ListN.{length, take, length-append}
 use lib.Seq.{take-append-seam}
 use borrow.Author.Tests.{le-leb, leb-true, leb-false}
 use Rattle.exact.specs.Claim.{accepted}
-use Rattle.exact.specs.Pick.{pick-by}
+use Rattle.exact.specs.Pick.{pick-by, never}
 use Rattle.record.specs.declared.Transport.the-variants.{Stream, Datagram}
 use Rattle.record.specs.declared.Kind.{Kind}
 use Rattle.record.specs.declared.Kind.the-variants.{Local, Unspecified, Ip4, Ip6, Unix}
@@ -24,14 +24,10 @@ use Rattle.header.specs.Demand.{Judges}
 use Rattle.fields.specs.LineFields.{lined}
 use Rattle.fields.specs.Facts.{longest-tcp4, longest-tcp6}
 use Rattle.answer.specs.Answers.{WriteAnswer, wrote, refuses, outputAfter}
-use Rattle.answer.specs.OutputLaws.{written-front}
+use Rattle.answer.specs.OutputLaws.{not-wrote, written-front}
 use Rattle.line_text.specs.LineText.{writtenLine}
 use Rattle.line_writer.specs.Written.{HasForm, unspecified, tcp4, tcp6, hasForm, CarriedByLine, lineAnswer}
 use Rattle.line_writer.specs.LineLaws.{line-of, tcp4-line, tcp6-line}
-
--- the test of a form says what `HasForm` says
-never : {A : Type 0} → false ≡ true → A
-never e = let z : _≡_ {A = ℕ} 0 1 = cc in absurd (omega arith)
 
 form-tested : (k : Kind) → hasForm k ≡ true → HasForm k
 form-tested Local e = never e
@@ -84,7 +80,7 @@ pub line-accepted : (r : Record) (room n : ℕ) → Sized r → lineAnswer r roo
 line-accepted r room n sized e = by (lineAnswer r room) e (answer-means r room sized)
   where
     by : (a : WriteAnswer) → a ≡ wrote n → Means r room a → CarriedByLine r × (length (writtenLine r) ≡ n) × (n ≤ room)
-    by (refuses k) q m = let z : _≡_ {A = ℕ} 0 1 = cc in absurd (omega arith)
+    by (refuses k) q m = not-wrote k n q
     by (wrote k) q (written w fits) = let size : length (writtenLine r) ≡ n = cc in (w, size, omega arith)
 
 -- and all of them

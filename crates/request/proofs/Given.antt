@@ -1,15 +1,16 @@
 -- What is asked of a writer, by the tests on a connection's bytes, and the record that they give.
 use mathlib.Core.Path.{_≡_, sym, ap, _∙_}
 use mathlib.Core.Bool.{Bool, true, false}
-use mathlib.Core.List.{List, [], _++_, append-nil}
+use mathlib.Core.List.{List}
 use Prim.Native.Nat.{ℕ, _+_, _≤_}
 use native.Mathlib.Omega.{arith}
 use lib.Dec.{eqb}
-use lib.ListN.{length, take, drop, getD, length-take, length-drop, drop-of-length-le}
+use lib.ListN.{length, take, drop, getD, length-take, length-drop}
 use borrow.Author.Tests.{eq-eqb, ne-eqb}
 use Rattle.exact.specs.Pick.{pick}
 use Rattle.lent.specs.Placed.{placed}
 use Rattle.lent.specs.PlacedLaws.{placed-front}
+use Rattle.lent.specs.BufferLaws.{over-all}
 use Rattle.kind_code.specs.Codes.{kindOf}
 use Rattle.request.specs.Request.{refusedWith, byKind, request}
 use Rattle.connection.specs.Connection.{connectionSize}
@@ -27,9 +28,7 @@ module _ (b : List ℕ) where
 -- bytes put over a whole array
 put-whole : (n : ℕ) (a d r : List ℕ) → length a ≡ n → length d ≡ n → r ≡ placed a 0 d → r ≡ a
 put-whole n a d r la ld e =
-    let within : length d ≤ length a = omega arith in
-    let none : drop (length a) d ≡ [] = drop-of-length-le d within in
-    e ∙ placed-front a d (omega arith) ∙ ap (λ (l : List ℕ). a ++ l) none ∙ append-nil a
+    e ∙ placed-front a d (omega arith) ∙ over-all a d (omega arith)
 
 -- a part of the bytes, put over a whole array
 pub put-part : (b d r : List ℕ) (at n : ℕ) → n ≡ 108 → at + 108 ≤ length b → length d ≡ 108 → r ≡ placed (take n (drop at b)) 0 d → r ≡ take 108 (drop at b)

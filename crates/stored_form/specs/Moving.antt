@@ -16,7 +16,7 @@ use Rattle.record.specs.declared.Record.{Record}
 use Rattle.clean.specs.UnusedLaws.{clean-test}
 use Rattle.address_block.specs.AddressBlock.{addressBlock}
 use Rattle.answer.specs.Answers.{WriteAnswer, wrote, refuses, outputAfter}
-use Rattle.answer.specs.OutputLaws.{written-front}
+use Rattle.answer.specs.OutputLaws.{not-wrote, written-front}
 use Rattle.stored_form.specs.declared.StoredVersion.{StoredVersion}
 use Rattle.stored_form.specs.declared.StoredVersion.the-variants.{One, Two}
 use Rattle.stored_form.specs.Heads.{mark, versionBytes, stateBytes, Keeps}
@@ -25,7 +25,7 @@ use Rattle.stored_form.specs.Stored.{stored, keptAnswer, storeAnswer}
 use Rattle.stored_form.specs.Loading.{LoadAnswer, loads, noRecord, loadAnswer}
 use Rattle.stored_form.specs.Meaning.{Form}
 use Rattle.stored_form.specs.LoadLaws.{answer-short, answer-version}
-use Rattle.stored_form.specs.RoundTrip.{stored-length, load-stored, load-again, not-wrote, store-written}
+use Rattle.stored_form.specs.RoundTrip.{stored-length, load-stored, load-again, store-written}
 use Rattle.stored_form.specs.Converting.{stateSaid, converted, convertBy, convertAnswer, LoadThenStore, Returns, GoesBack}
 
 -- ── a stored form, moved ──

@@ -1,7 +1,7 @@
 -- "One record, one byte string, and reading it returns the record" (document 01, "Stored form, version 1"), in each version: that the answers mean what
 -- `Meaning` says.
 use mathlib.Core.Path.{_≡_, refl, sym, ap, ap₂, _∙_, subst}
-use mathlib.Core.Bool.{Bool, true, false}
+use mathlib.Core.Bool.{true}
 use mathlib.Core.List.{List, _++_}
 use mathlib.Core.Option.{Option, some, none}
 use Prim.Native.Nat.{ℕ, _+_, _≤_}
@@ -11,7 +11,7 @@ use lib.Dec.{eqb, ltb, leb}
 use lib.ListN.{length, drop, getD, length-append, length-drop}
 use Rattle.exact.specs.Claim.{AllBytes}
 use Rattle.exact.specs.Parser.{bytes-drop}
-use Rattle.exact.specs.Pick.{pick-by}
+use Rattle.exact.specs.Pick.{pick-by, never}
 use Rattle.record.specs.declared.Transport.the-variants.{Stream}
 use Rattle.record.specs.declared.Kind.{Kind}
 use Rattle.record.specs.declared.Kind.the-variants.{Local, Unspecified, Ip4, Ip6, Unix}
@@ -26,7 +26,7 @@ use Rattle.clean.specs.UnusedLaws.{state-clean, clean-test}
 use Rattle.address_block.specs.AddressBlock.{addressBlock, blockRecord}
 use Rattle.address_block.specs.AddressBlockLaws.{block-size, record-again, block-again, block-plain, block-sized}
 use Rattle.answer.specs.Answers.{WriteAnswer, wrote, refuses, outputAfter}
-use Rattle.answer.specs.OutputLaws.{written-front}
+use Rattle.answer.specs.OutputLaws.{not-wrote, written-front}
 use Rattle.kind_code.specs.Codes.{kindOf}
 use Rattle.kind_code.specs.CodeLaws.{code-kind}
 use Rattle.stored_form.specs.declared.StoredVersion.{StoredVersion}
@@ -139,12 +139,6 @@ module _ (v : StoredVersion) (s : List ℕ) (bytes : AllBytes s) where
           refused k (λ r form. not-loaded k r (sym e ∙ ap (loadAnswer v) (sym (form .same)) ∙ load-stored v r (form .sized) (form .storable)))
 
 -- ── the writer ──
-pub not-wrote : (k n : ℕ) {A : Type 0} → refuses k ≡ wrote n → A
-not-wrote k n e = let z : _≡_ {A = ℕ} 0 1 = cc in absurd (omega arith)
-
-not-both : {A : Type 0} (b : Bool) → b ≡ true → b ≡ false → A
-not-both b e f = let z : _≡_ {A = ℕ} 0 1 = cc in absurd (omega arith)
-
 module _ (v : StoredVersion) (r : Record) (room : ℕ) (sized : Sized r) where
   pub answer-means : Means v r room (storeAnswer v r room)
   answer-means =
@@ -157,8 +151,8 @@ module _ (v : StoredVersion) (r : Record) (room : ℕ) (sized : Sized r) where
       (λ t₂.
       let fits : Storable v r = record { clean = clean; kept = keeps-test v c .0 t₂ } in
       pick-by P (leb (length (stored v r)) room) (λ t. written fits (leb-true _ _ t)) (λ t. too-short fits (leb-false _ _ t)))
-      (λ t₂. not-kept clean (λ kept. not-both _ (keeps-test v c .1 kept) t₂)))
-      (λ t₁. unused (λ clean. not-both _ (clean-test r sized .1 clean) t₁))
+      (λ t₂. not-kept clean (λ kept. never (sym t₂ ∙ keeps-test v c .1 kept))))
+      (λ t₁. unused (λ clean. never (sym t₁ ∙ clean-test r sized .1 clean)))
 
   -- what it accepts can be stored and fits, and the answer is its length
   pub store-written : (n : ℕ) → storeAnswer v r room ≡ wrote n → Storable v r × (length (stored v r) ≡ n) × (n ≤ room)
