@@ -41,71 +41,73 @@ impl<T: Copy + PartialEq> Lent<T> {
         self.all[EDGE..].as_mut_ptr()
     }
 
-    /// What it holds after the call; the canaries must stand.
-    fn left(mut self) -> Vec<T> {
+    /// What it holds after a call on this input; the canaries must stand.
+    fn left(mut self, input: &[u8]) -> Vec<T> {
         let end = self.all.len() - EDGE;
-        assert!(self.all[..EDGE].iter().chain(&self.all[end..]).all(|x| *x == self.canary), "a byte beside a lent buffer was written");
+        let stand = self.all[..EDGE].iter().chain(&self.all[end..]).all(|x| *x == self.canary);
+        assert!(stand, "{}: a byte beside a lent buffer was written", hex(input));
         self.all.truncate(end);
         self.all.drain(..EDGE);
         self.all
     }
 }
 
-/// Lends numbers and bytes of these lengths to a call.
-fn lend(numbers_len: usize, bytes_len: usize, call: impl FnOnce(*mut u64, *mut u8) -> u32) -> Left {
+/// Lends numbers and bytes of these lengths to a call on this input.
+fn lend(input: &[u8], numbers_len: usize, bytes_len: usize, call: impl FnOnce(*mut u64, *mut u8) -> u32) -> Left {
     let mut numbers = Lent::new(NUMBER, numbers_len);
     let mut bytes = Lent::new(BYTE, bytes_len);
     let answer = call(numbers.pointer(), bytes.pointer());
-    Left { answer, numbers: numbers.left(), bytes: bytes.left() }
+    Left { answer, numbers: numbers.left(input), bytes: bytes.left(input) }
 }
 
-/// Lends bytes to be read to a call, which must leave them as they were.
-fn lend_to_read(bytes: &[u8], call: impl FnOnce(*const u8) -> Left) -> Left {
-    let mut lent = Lent::new(BYTE, bytes.len());
-    lent.all[EDGE..][..bytes.len()].copy_from_slice(bytes);
-    let left = call(lent.pointer());
-    assert!(lent.left() == bytes, "{}: bytes lent to be read were written", hex(bytes));
+/// The same, and lends the input too, which must stay as it was.
+fn lend_all(input: &[u8], numbers_len: usize, bytes_len: usize, call: impl FnOnce(*const u8, *mut u64, *mut u8) -> u32) -> Left {
+    let mut lent = Lent::new(BYTE, input.len());
+    lent.all[EDGE..][..input.len()].copy_from_slice(input);
+    let pointer = lent.pointer();
+    let left = lend(input, numbers_len, bytes_len, |numbers, bytes| call(pointer, numbers, bytes));
+    assert!(lent.left(input) == input, "{}: bytes lent to be read were written", hex(input));
     left
 }
 
 // SAFETY, of each call below: a pointer is valid for the length beside it, and what may be written overlaps nothing.
 
 pub fn read(bytes: &[u8], numbers_len: usize, connection_len: usize) -> Left {
-    lend(numbers_len, connection_len, |numbers, connection| unsafe {
+    lend(bytes, numbers_len, connection_len, |numbers, connection| unsafe {
         dawnhawse_read(bytes.as_ptr(), bytes.len(), numbers, numbers_len, connection, connection_len)
     })
 }
 
 pub fn read_checked(bytes: &[u8], numbers_len: usize, connection_len: usize) -> Left {
-    lend(numbers_len, connection_len, |numbers, connection| unsafe {
+    lend(bytes, numbers_len, connection_len, |numbers, connection| unsafe {
         dawnhawse_read_checked(bytes.as_ptr(), bytes.len(), numbers, numbers_len, connection, connection_len)
     })
 }
 
 pub fn step(area: &[u8], at: usize, numbers_len: usize) -> Left {
-    lend(numbers_len, 0, |numbers, _| unsafe { dawnhawse_step(area.as_ptr(), area.len(), at, numbers, numbers_len) })
+    lend(area, numbers_len, 0, |numbers, _| unsafe { dawnhawse_step(area.as_ptr(), area.len(), at, numbers, numbers_len) })
 }
 
 pub fn next(area: &[u8], at: usize, numbers_len: usize) -> Left {
-    lend(numbers_len, 0, |numbers, _| unsafe { dawnhawse_next(area.as_ptr(), area.len(), at, numbers, numbers_len) })
+    lend(area, numbers_len, 0, |numbers, _| unsafe { dawnhawse_next(area.as_ptr(), area.len(), at, numbers, numbers_len) })
 }
 
 pub fn lookup(area: &[u8], wanted: u8, limit: usize, numbers_len: usize) -> Left {
-    lend(numbers_len, 0, |numbers, _| unsafe { dawnhawse_lookup(area.as_ptr(), area.len(), wanted, limit, numbers, numbers_len) })
+    lend(area, numbers_len, 0, |numbers, _| unsafe { dawnhawse_lookup(area.as_ptr(), area.len(), wanted, limit, numbers, numbers_len) })
 }
 
 pub fn write_v1(connection: &[u8], room: usize, numbers_len: usize) -> Left {
-    lend(numbers_len, room, |numbers, out| unsafe { dawnhawse_write_v1(connection.as_ptr(), connection.len(), out, room, numbers, numbers_len) })
+    lend(connection, numbers_len, room, |numbers, out| unsafe { dawnhawse_write_v1(connection.as_ptr(), connection.len(), out, room, numbers, numbers_len) })
 }
 
 pub fn write_v2(connection: &[u8], area: &[u8], room: usize, numbers_len: usize) -> Left {
-    lend(numbers_len, room, |numbers, out| unsafe {
+    lend(connection, numbers_len, room, |numbers, out| unsafe {
         dawnhawse_write_v2(connection.as_ptr(), connection.len(), area.as_ptr(), area.len(), out, room, numbers, numbers_len)
     })
 }
 
 pub fn write_v2_checked(connection: &[u8], area: &[u8], room: usize, numbers_len: usize) -> Left {
-    lend(numbers_len, room, |numbers, out| unsafe {
+    lend(connection, numbers_len, room, |numbers, out| unsafe {
         dawnhawse_write_v2_checked(connection.as_ptr(), connection.len(), area.as_ptr(), area.len(), out, room, numbers, numbers_len)
     })
 }
@@ -115,7 +117,7 @@ pub fn store(version: StoredVersion, connection: &[u8], room: usize, numbers_len
         StoredVersion::One => dawnhawse_store,
         StoredVersion::Two => dawnhawse_store_v2,
     };
-    lend_to_read(connection, |lent| lend(numbers_len, room, |numbers, out| unsafe { store(lent, connection.len(), out, room, numbers, numbers_len) }))
+    lend_all(connection, numbers_len, room, |lent, numbers, out| unsafe { store(lent, connection.len(), out, room, numbers, numbers_len) })
 }
 
 pub fn load(version: StoredVersion, stored: &[u8], connection_len: usize) -> Left {
@@ -123,7 +125,7 @@ pub fn load(version: StoredVersion, stored: &[u8], connection_len: usize) -> Lef
         StoredVersion::One => dawnhawse_load,
         StoredVersion::Two => dawnhawse_load_v2,
     };
-    lend_to_read(stored, |lent| lend(0, connection_len, |_, connection| unsafe { load(lent, stored.len(), connection, connection_len) }))
+    lend_all(stored, 0, connection_len, |lent, _, connection| unsafe { load(lent, stored.len(), connection, connection_len) })
 }
 
 /// Forward from version 1, back from version 2.
@@ -132,10 +134,10 @@ pub fn move_from(version: StoredVersion, stored: &[u8], room: usize, numbers_len
         StoredVersion::One => dawnhawse_forward,
         StoredVersion::Two => dawnhawse_back,
     };
-    lend_to_read(stored, |lent| lend(numbers_len, room, |numbers, out| unsafe { moving(lent, stored.len(), out, room, numbers, numbers_len) }))
+    lend_all(stored, numbers_len, room, |lent, numbers, out| unsafe { moving(lent, stored.len(), out, room, numbers, numbers_len) })
 }
 
 /// The checksum's number is its answer.
 pub fn crc32c(bytes: &[u8]) -> Left {
-    lend(0, 0, |_, _| unsafe { dawnhawse_crc32c(bytes.as_ptr(), bytes.len()) })
+    lend(bytes, 0, 0, |_, _| unsafe { dawnhawse_crc32c(bytes.as_ptr(), bytes.len()) })
 }
