@@ -54,7 +54,7 @@ int main(void)
     if (answer != DAWNHAWSE_WRITTEN)
         return 1;
     size = numbers[DAWNHAWSE_WRITTEN_LENGTH];
-    print_bytes("stored", stored, size);
+    print_bytes("stored in version 1", stored, size);
 
     answer = dawnhawse_load(stored, size, loaded, sizeof loaded);
     printf("loaded: %s, %s\n", dawnhawse_answer_name(answer),
