@@ -1,4 +1,4 @@
-//! Compiles the C parser and links it; the proved library is linked by `compare`.
+//! Compiles the C code and links it; the proved library is linked by `compare`.
 use std::process::Command;
 
 fn main() {
@@ -6,12 +6,14 @@ fn main() {
     let out = std::env::var("OUT_DIR").expect("cargo sets it");
     // Without -fno-builtin-memset gcc makes one string store of the 222 zeros, which costs more than the rest of a version 2 header.
     let flags = ["-std=c99", "-O2", "-fno-builtin-memset", "-Wall", "-Wextra", "-Wpedantic", "-Werror", "-c"];
-    done(Command::new("gcc").args(flags).arg(format!("{here}/parser.c")).arg("-o").arg(format!("{out}/parser.o")));
-    done(Command::new("ar").arg("crs").arg(format!("{out}/libparser.a")).arg(format!("{out}/parser.o")));
-    println!("cargo:rerun-if-changed=parser.c");
-    println!("cargo:rerun-if-changed=parser.h");
+    for name in ["parser", "stored"] {
+        done(Command::new("gcc").args(flags).arg(format!("{here}/{name}.c")).arg("-o").arg(format!("{out}/{name}.o")));
+        println!("cargo:rerun-if-changed={name}.c");
+        println!("cargo:rerun-if-changed={name}.h");
+    }
+    done(Command::new("ar").arg("crs").arg(format!("{out}/libusual.a")).args(["parser", "stored"].map(|name| format!("{out}/{name}.o"))));
     println!("cargo:rustc-link-search=native={out}");
-    println!("cargo:rustc-link-lib=static=parser");
+    println!("cargo:rustc-link-lib=static=usual");
 }
 
 fn done(command: &mut Command) {

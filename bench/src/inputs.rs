@@ -1,13 +1,26 @@
-//! The headers that are read, each with the ratio to the C parser that the library is to keep to.
+//! The headers, connections and stored forms that are taken, each with the ratio to the C code that the library is to keep to.
+
+/// What is done with the bytes.
+#[derive(Clone, Copy, PartialEq)]
+pub enum Call {
+    Read,
+    /// The header's checksum is compared.
+    ReadChecked,
+    /// A connection is stored in version 2.
+    Store,
+    /// A stored form of version 2 is loaded.
+    Load,
+    /// A stored form of version 1 is moved to version 2.
+    Forward,
+}
 
 pub struct Input {
     pub name: &'static str,
     pub what: &'static str,
+    pub call: Call,
     pub bytes: Vec<u8>,
     /// The bytes are judged after this many of them and after each further one; all of that counts as one header.
     pub first: usize,
-    /// The reading is a checked one: the header's checksum is compared.
-    pub checked: bool,
     pub target: Option<f64>,
 }
 
@@ -15,6 +28,18 @@ impl Input {
     /// The bytes so far of each reading.
     pub fn readings(&self) -> Vec<&[u8]> {
         (self.first..=self.bytes.len()).map(|n| &self.bytes[..n]).collect()
+    }
+
+    /// The bytes with one of them changed so that they are refused: the last of a checksum, or the first of a connection or a mark.
+    pub fn spoilt(&self) -> Option<Vec<u8>> {
+        let place = match self.call {
+            Call::Read => return None,
+            Call::ReadChecked => self.bytes.len() - 1,
+            Call::Store | Call::Load | Call::Forward => 0,
+        };
+        let mut spoilt = self.bytes.clone();
+        spoilt[place] ^= 1;
+        Some(spoilt)
     }
 }
 
@@ -25,27 +50,42 @@ pub fn inputs() -> Vec<Input> {
     vec![
         whole("v1-tcp4", "version 1, TCP4 (W02)", b"PROXY TCP4 192.168.0.1 192.168.0.11 56324 443\r\n".to_vec(), 0.6),
         whole("v1-tcp6", "version 1, longest TCP6", LONGEST_TCP6.to_vec(), 1.0),
-        whole("v2-ip4", "version 2, IPv4", block(0x11, &[&[192, 168, 0, 1], &[192, 168, 0, 11], &PORTS]), 2.5),
+        whole("v2-ip4", "version 2, IPv4", block(0x11, &[&SOURCE, &DESTINATION, &PORTS]), 2.5),
         whole("v2-ip6-tlvs", "version 2, IPv6, three TLVs", block(0x21, &[&address6(0x34), &address6(0x35), &PORTS, &tlvs()]), 2.5),
         whole("v2-unix", "version 2, UNIX", block(0x31, &[&path("/run/screen/tester.sock"), &path("/run/screen/services.sock")]), 2.5),
-        Input { name: "scraps", what: "longest TCP6, byte by byte", bytes: LONGEST_TCP6.to_vec(), first: 1, checked: false, target: None },
-        checked("v2-checked", "version 2, checked", with_checksum(200)),
-        checked("v2-longest-checked", "version 2, longest, checked", with_checksum(65551)),
+        Input { first: 1, ..taken("scraps", "longest TCP6, byte by byte", Call::Read, LONGEST_TCP6.to_vec()) },
+        taken("v2-checked", "version 2, checked", Call::ReadChecked, with_checksum(200)),
+        taken("v2-longest-checked", "version 2, longest, checked", Call::ReadChecked, with_checksum(65551)),
+        taken("store", "IPv4, stored", Call::Store, connection()),
+        taken("load", "IPv4, loaded", Call::Load, form(&[2, 0x11, 1])),
+        taken("forward", "IPv4, moved forward", Call::Forward, form(&[1, 0x11])),
     ]
 }
 
 fn whole(name: &'static str, what: &'static str, bytes: Vec<u8>, target: f64) -> Input {
-    let first = bytes.len();
-    Input { name, what, bytes, first, checked: false, target: Some(target) }
+    Input { target: Some(target), ..taken(name, what, Call::Read, bytes) }
 }
 
-fn checked(name: &'static str, what: &'static str, bytes: Vec<u8>) -> Input {
-    let first = bytes.len();
-    Input { name, what, bytes, first, checked: true, target: None }
+fn taken(name: &'static str, what: &'static str, call: Call, bytes: Vec<u8>) -> Input {
+    Input { name, what, call, first: bytes.len(), bytes, target: None }
 }
+
+const SOURCE: [u8; 4] = [192, 168, 0, 1];
+const DESTINATION: [u8; 4] = [192, 168, 0, 11];
 
 /// 56324 and 443.
 const PORTS: [u8; 4] = [0xDC, 0x04, 0x01, 0xBB];
+
+/// An IPv4 connection whose checksum matched.
+fn connection() -> Vec<u8> {
+    let unused = [0; 108 - 4];
+    [&[0x11][..], &SOURCE, &unused, &DESTINATION, &unused, &PORTS, &[1]].concat()
+}
+
+/// Its stored form, with this between the mark and the address block.
+fn form(head: &[u8]) -> Vec<u8> {
+    [b"CSR\0", head, &SOURCE, &DESTINATION, &PORTS].concat()
+}
 
 /// A version 2 header under PROXY.
 fn block(family: u8, parts: &[&[u8]]) -> Vec<u8> {

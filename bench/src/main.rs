@@ -1,6 +1,6 @@
-//! Times the proved library, the C parser and the second program on the same headers, and prints what a header costs each.
+//! Times the proved library, C code and the second program on the same headers, connections and stored forms, and prints what each costs.
 //! Usage: bench                                                  both tables
-//!        bench --only library|c|second --input NAME --count N   reads one header N times and prints nothing, for profilers
+//!        bench --only library|c|second --input NAME --count N   takes one input N times and prints nothing, for profilers
 mod inputs;
 mod measure;
 mod programs;
@@ -18,7 +18,7 @@ fn main() {
             let program = Program::ALL.into_iter().find(|known| known.name() == program);
             let input = inputs.iter().find(|known| known.name == input);
             match (program, input, count.parse()) {
-                (Some(program), Some(input), Ok(count)) => program.read(input, count),
+                (Some(program), Some(input), Ok(count)) => program.take(input, count),
                 _ => usage(&inputs),
             }
         }
@@ -34,17 +34,17 @@ fn usage(inputs: &[Input]) {
 
 fn tables(inputs: &[Input]) {
     inputs.iter().for_each(check);
-    println!("Nanoseconds a header, of processor time: the median of {} rounds, in which the three take turns", measure::ROUNDS);
+    println!("Nanoseconds of processor time: the median of {} rounds, in which the three take turns", measure::ROUNDS);
     titles();
     for input in inputs {
         row(input, measure::nanoseconds(input));
     }
     println!();
     if !measure::has_valgrind() {
-        println!("Instructions a header: not counted, as valgrind is missing");
+        println!("Instructions: not counted, as valgrind is missing");
         return;
     }
-    println!("Instructions a header, as callgrind counts them");
+    println!("Instructions, as callgrind counts them");
     titles();
     for input in inputs {
         match measure::instructions(input) {
@@ -54,31 +54,28 @@ fn tables(inputs: &[Input]) {
     }
 }
 
-/// All three give the same answer on all that is timed: accepted for the whole header, and more before. With a wrong checksum none
-/// accepts.
+/// All three give the same answer on all that is timed: accepted for the whole, and more before. What is spoilt none accepts.
 fn check(input: &Input) {
     for bytes in input.readings() {
         let whole = bytes.len() == input.bytes.len();
         agree(input, bytes, |answer| if whole { matches!(answer, Answer::Accepted(_)) } else { *answer == Answer::More });
     }
-    if input.checked {
-        let mut wrong = input.bytes.clone();
-        *wrong.last_mut().expect("a header") ^= 1;
-        agree(input, &wrong, |answer| *answer == Answer::Refused);
+    if let Some(spoilt) = input.spoilt() {
+        agree(input, &spoilt, |answer| *answer == Answer::Refused);
     }
 }
 
 fn agree(input: &Input, bytes: &[u8], expected: impl Fn(&Answer) -> bool) {
-    let [library, c, second] = Program::ALL.map(|program| program.answer(bytes, input.checked));
+    let [library, c, second] = Program::ALL.map(|program| program.answer(input.call, bytes));
     if !expected(&library) || library != c || library != second {
         let hex: String = bytes.iter().map(|b| format!("{b:02x}")).collect();
-        eprintln!("bench: {}: input {hex} ({} bytes): the library says {library:?}, the C parser {c:?}, the second program {second:?}", input.what, bytes.len());
+        eprintln!("bench: {}: input {hex} ({} bytes): the library says {library:?}, the C code {c:?}, the second program {second:?}", input.what, bytes.len());
         std::process::exit(1);
     }
 }
 
 fn titles() {
-    println!("{:<28}{:>6}{:>10}{:>10}{:>11}{:>13}{:>20}{:>12}", "", "bytes", "library", "C parser", "second", "library / C", "target", "second / C");
+    println!("{:<28}{:>6}{:>10}{:>10}{:>11}{:>13}{:>20}{:>12}", "", "bytes", "library", "C", "second", "library / C", "target", "second / C");
 }
 
 fn row(input: &Input, [library, c, second]: [f64; 3]) {

@@ -1,4 +1,4 @@
-//! How long a program takes for a header, and how many instructions.
+//! How long a program takes for an input, and how many instructions.
 use crate::inputs::Input;
 use crate::programs::Program;
 use std::process::Command;
@@ -24,11 +24,11 @@ fn clock() -> f64 {
 
 fn time(program: Program, input: &Input, count: u64) -> f64 {
     let start = clock();
-    program.read(input, count);
+    program.take(input, count);
     clock() - start
 }
 
-/// How many headers fill a round.
+/// How many times the input fills a round.
 fn count_of_a_round(program: Program, input: &Input) -> u64 {
     let mut count = 1;
     loop {
@@ -40,7 +40,7 @@ fn count_of_a_round(program: Program, input: &Input) -> u64 {
     }
 }
 
-/// Nanoseconds a header for each program: the median of the rounds, in which the programs take turns.
+/// Nanoseconds for each program: the median of the rounds, in which the programs take turns.
 pub fn nanoseconds(input: &Input) -> [f64; 3] {
     let counts = Program::ALL.map(|program| count_of_a_round(program, input));
     let mut rounds = [(); 3].map(|()| Vec::with_capacity(ROUNDS));
@@ -60,7 +60,7 @@ pub fn has_valgrind() -> bool {
     Command::new("valgrind").arg("--version").output().is_ok_and(|output| output.status.success())
 }
 
-/// Instructions a header for each program, as callgrind counts them: the difference of two runs, which leaves start-up out.
+/// Instructions for each program, as callgrind counts them: the difference of two runs, which leaves start-up out.
 pub fn instructions(input: &Input) -> Result<[f64; 3], String> {
     let (few, many) = (10, 110);
     let mut all = [0.0; 3];

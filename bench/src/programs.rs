@@ -1,30 +1,37 @@
-//! The three programs under one roof: the proved library through its C interface, the C parser, and the second program.
-use crate::inputs::Input;
+//! The three programs under one roof: the proved library through its C interface, the C code, and the second program.
+use crate::inputs::{Call, Input};
 use compare::connection::{self, SIZE as CONNECTION};
-use second::Verdict;
+use second::{StoredVersion, Verdict};
 use std::hint::black_box;
 
 extern "C" {
     /// include/dawnhawse.h
     fn dawnhawse_read(bytes: *const u8, bytes_len: usize, numbers: *mut u64, numbers_len: usize, connection: *mut u8, connection_len: usize) -> u32;
     fn dawnhawse_read_checked(bytes: *const u8, bytes_len: usize, numbers: *mut u64, numbers_len: usize, connection: *mut u8, connection_len: usize) -> u32;
+    fn dawnhawse_store_v2(connection: *const u8, connection_len: usize, out: *mut u8, out_len: usize, numbers: *mut u64, numbers_len: usize) -> u32;
+    fn dawnhawse_load_v2(stored: *const u8, stored_len: usize, connection: *mut u8, connection_len: usize) -> u32;
+    fn dawnhawse_forward(stored: *const u8, stored_len: usize, out: *mut u8, out_len: usize, numbers: *mut u64, numbers_len: usize) -> u32;
     /// parser.h
-    fn parser_read(bytes: *const u8, n: usize, header: *mut Reading) -> u32;
-    fn parser_read_checked(bytes: *const u8, n: usize, header: *mut Reading) -> u32;
+    fn parser_read(bytes: *const u8, n: usize, header: *mut Told) -> u32;
+    fn parser_read_checked(bytes: *const u8, n: usize, header: *mut Told) -> u32;
+    /// stored.h
+    fn stored_write(connection: *const u8, out: *mut u8, room: usize, length: *mut u64) -> u32;
+    fn stored_load(form: *const u8, n: usize, connection: *mut u8) -> u32;
+    fn stored_forward(form: *const u8, n: usize, out: *mut u8, room: usize, length: *mut u64) -> u32;
 }
 
 /// What a program tells of an accepted header: length, version, the TLV area's start and length, and the connection. The C parser's
-/// header is laid out so.
+/// header is laid out so. Of a stored form: its length where one is written, and its bytes or the connection that it holds.
 #[repr(C)]
 #[derive(Debug, PartialEq)]
-pub struct Reading {
+pub struct Told {
     numbers: [u64; 4],
-    connection: [u8; CONNECTION],
+    bytes: [u8; CONNECTION],
 }
 
 #[derive(Debug, PartialEq)]
 pub enum Answer {
-    Accepted(Box<Reading>),
+    Accepted(Box<Told>),
     /// Without how few bytes are missing, which the library and the second program tell and the C parser does not.
     More,
     /// Also where only the checksum is wrong.
@@ -49,81 +56,123 @@ impl Program {
         }
     }
 
-    /// What the program says of the bytes, in a checked reading or a plain one.
-    pub fn answer(self, bytes: &[u8], checked: bool) -> Answer {
-        let mut reading = Reading::new();
-        let number = match (self, checked) {
-            (Program::Library, false) => library(bytes, &mut reading),
-            (Program::Library, true) => library_checked(bytes, &mut reading),
-            (Program::C, false) => c_parser(bytes, &mut reading),
-            (Program::C, true) => c_parser_checked(bytes, &mut reading),
-            (Program::Second, false) => return second_answer(&second::judge(bytes)),
-            (Program::Second, true) => return second::judge_checked(bytes).map_or(Answer::Refused, |verdict| second_answer(&verdict)),
+    /// What the program says of the bytes.
+    pub fn answer(self, call: Call, bytes: &[u8]) -> Answer {
+        let mut told = Told::new();
+        let number = match self {
+            Program::Library => library(call, bytes, &mut told),
+            Program::C => c(call, bytes, &mut told),
+            Program::Second => second(call, bytes, &mut told),
         };
         match (self, number) {
-            (_, 0) => Answer::Accepted(Box::new(reading)),
-            (Program::Library, 255) | (Program::C, 1) => Answer::More,
+            (_, 0) => Answer::Accepted(Box::new(told)),
+            (Program::Library | Program::Second, 255) | (Program::C, 1) => Answer::More,
             _ => Answer::Refused,
         }
     }
 
-    /// Reads the input's header so many times.
-    pub fn read(self, input: &Input, count: u64) {
-        let mut reading = Reading::new();
-        match (self, input.checked) {
-            (Program::Library, false) => repeat(input, count, |bytes| library(bytes, black_box(&mut reading))),
-            (Program::Library, true) => repeat(input, count, |bytes| library_checked(bytes, black_box(&mut reading))),
-            (Program::C, false) => repeat(input, count, |bytes| c_parser(bytes, black_box(&mut reading))),
-            (Program::C, true) => repeat(input, count, |bytes| c_parser_checked(bytes, black_box(&mut reading))),
-            (Program::Second, false) => repeat(input, count, second::judge),
-            (Program::Second, true) => repeat(input, count, second::judge_checked),
+    /// Takes the input so many times. The call is a constant to each loop, so that none chooses.
+    pub fn take(self, input: &Input, count: u64) {
+        match input.call {
+            Call::Read => self.repeat(Call::Read, input, count),
+            Call::ReadChecked => self.repeat(Call::ReadChecked, input, count),
+            Call::Store => self.repeat(Call::Store, input, count),
+            Call::Load => self.repeat(Call::Load, input, count),
+            Call::Forward => self.repeat(Call::Forward, input, count),
+        }
+    }
+
+    #[inline(always)]
+    fn repeat(self, call: Call, input: &Input, count: u64) {
+        let mut told = Told::new();
+        match self {
+            Program::Library => each(input, count, |bytes| library(call, bytes, black_box(&mut told))),
+            Program::C => each(input, count, |bytes| c(call, bytes, black_box(&mut told))),
+            Program::Second => each(input, count, |bytes| second(call, bytes, black_box(&mut told))),
         }
     }
 }
 
-fn repeat<T>(input: &Input, count: u64, mut read: impl FnMut(&[u8]) -> T) {
+#[inline(always)]
+fn each(input: &Input, count: u64, mut take: impl FnMut(&[u8]) -> u32) {
     let readings = input.readings();
     for _ in 0..count {
         for bytes in &readings {
-            black_box(read(black_box(bytes)));
+            black_box(take(black_box(bytes)));
         }
     }
 }
 
-impl Reading {
-    fn new() -> Reading {
-        Reading { numbers: [0; 4], connection: [0; CONNECTION] }
+impl Told {
+    fn new() -> Told {
+        Told { numbers: [0; 4], bytes: [0; CONNECTION] }
     }
 }
 
-fn library(bytes: &[u8], Reading { numbers, connection }: &mut Reading) -> u32 {
+#[inline(always)]
+fn library(call: Call, input: &[u8], Told { numbers, bytes }: &mut Told) -> u32 {
+    let (from, length) = (input.as_ptr(), input.len());
+    let (numbers, told) = (numbers.as_mut_ptr(), numbers.len());
+    let (bytes, room) = (bytes.as_mut_ptr(), bytes.len());
     // SAFETY: each pointer is valid for the length beside it, and the buffers do not overlap.
-    unsafe { dawnhawse_read(bytes.as_ptr(), bytes.len(), numbers.as_mut_ptr(), numbers.len(), connection.as_mut_ptr(), connection.len()) }
+    unsafe {
+        match call {
+            Call::Read => dawnhawse_read(from, length, numbers, told, bytes, room),
+            Call::ReadChecked => dawnhawse_read_checked(from, length, numbers, told, bytes, room),
+            Call::Store => dawnhawse_store_v2(from, length, bytes, room, numbers, told),
+            Call::Load => dawnhawse_load_v2(from, length, bytes, room),
+            Call::Forward => dawnhawse_forward(from, length, bytes, room, numbers, told),
+        }
+    }
 }
 
-fn library_checked(bytes: &[u8], Reading { numbers, connection }: &mut Reading) -> u32 {
-    // SAFETY: as above.
-    unsafe { dawnhawse_read_checked(bytes.as_ptr(), bytes.len(), numbers.as_mut_ptr(), numbers.len(), connection.as_mut_ptr(), connection.len()) }
+#[inline(always)]
+fn c(call: Call, input: &[u8], told: &mut Told) -> u32 {
+    let (from, length) = (input.as_ptr(), input.len());
+    let (bytes, room) = (told.bytes.as_mut_ptr(), told.bytes.len());
+    // SAFETY: the input is valid for its length, and a connection where one is stored; what is told has the layout of the parser's header.
+    unsafe {
+        match call {
+            Call::Read => parser_read(from, length, told),
+            Call::ReadChecked => parser_read_checked(from, length, told),
+            Call::Store => stored_write(from, bytes, room, &mut told.numbers[0]),
+            Call::Load => stored_load(from, length, bytes),
+            Call::Forward => stored_forward(from, length, bytes, room, &mut told.numbers[0]),
+        }
+    }
 }
 
-fn c_parser(bytes: &[u8], reading: &mut Reading) -> u32 {
-    // SAFETY: the bytes are valid for their length, and the reading has the layout of the parser's header.
-    unsafe { parser_read(bytes.as_ptr(), bytes.len(), reading) }
+/// The library's numbers: 0, 255 for more, and others.
+#[inline(always)]
+fn second(call: Call, input: &[u8], Told { numbers, bytes }: &mut Told) -> u32 {
+    let written = match call {
+        Call::Read => return verdict(&second::judge(input), numbers, bytes),
+        Call::ReadChecked => return second::judge_checked(input).map_or_else(u32::from, |read| verdict(&read, numbers, bytes)),
+        Call::Load => second::load(StoredVersion::Two, input).map_err(u32::from).map(|record| {
+            *bytes = connection::bytes(&record);
+            0
+        }),
+        Call::Store => connection::record(input).and_then(|record| second::store(StoredVersion::Two, &record, bytes).map_err(u32::from)),
+        Call::Forward => second::forward(input, bytes).map_err(u32::from),
+    };
+    match written {
+        Ok(length) => {
+            numbers[0] = length as u64;
+            0
+        }
+        Err(number) => number,
+    }
 }
 
-fn c_parser_checked(bytes: &[u8], reading: &mut Reading) -> u32 {
-    // SAFETY: as above.
-    unsafe { parser_read_checked(bytes.as_ptr(), bytes.len(), reading) }
-}
-
-fn second_answer(verdict: &Verdict) -> Answer {
+fn verdict(verdict: &Verdict, numbers: &mut [u64; 4], bytes: &mut [u8; CONNECTION]) -> u32 {
     match verdict {
         Verdict::Accepted(header) => {
             let area = &header.tlv_area;
-            let numbers = [header.length as u64, u64::from(header.version), area.start as u64, area.len() as u64];
-            Answer::Accepted(Box::new(Reading { numbers, connection: connection::bytes(&header.record) }))
+            *numbers = [header.length as u64, u64::from(header.version), area.start as u64, area.len() as u64];
+            *bytes = connection::bytes(&header.record);
+            0
         }
-        Verdict::More(_) => Answer::More,
-        Verdict::Refused { .. } => Answer::Refused,
+        Verdict::More(_) => 255,
+        Verdict::Refused { number, .. } => u32::from(*number),
     }
 }
