@@ -1,5 +1,4 @@
 -- What the reader of stored bytes answers, in a version (document 01, "Stored form, version 1" and "Numbered answers"; document 02, K7).
-use mathlib.Core.Path.{_≡_, refl}
 use mathlib.Core.Bool.{Bool, _&&_}
 use mathlib.Core.List.{List}
 use mathlib.Core.Option.{Option, some, none}
@@ -8,9 +7,8 @@ use lib.Dec.{eqb, ltb}
 use lib.ListN.{length, drop, getD}
 use Rattle.exact.specs.Pick.{pick}
 use Rattle.record.specs.declared.Kind.{Kind}
-use Rattle.record.specs.declared.Kind.the-variants.{Local, Unspecified, Ip4, Ip6, Unix}
+use Rattle.record.specs.declared.Kind.the-variants.{Unspecified}
 use Rattle.record.specs.declared.Checksum.{Checksum}
-use Rattle.record.specs.declared.Checksum.the-variants.{Absent}
 use Rattle.record.specs.declared.Record.{Record}
 use Rattle.record.specs.Kinds.{blockLength}
 use Rattle.record.specs.Records.{withChecksum, bare}
@@ -22,7 +20,6 @@ use Rattle.stored_form.specs.declared.Outcome.{Outcome}
 use Rattle.stored_form.specs.declared.Outcome.the-variants.{Accepted, Refused}
 use Rattle.stored_form.specs.declared.Loaded.{Loaded}
 use Rattle.stored_form.specs.declared.StoredVersion.{StoredVersion}
-use Rattle.stored_form.specs.declared.StoredVersion.the-variants.{One}
 use Rattle.stored_form.specs.Heads.{versionByte, headLength, stateIn}
 use Rattle.kind_code.specs.Codes.{kindOf}
 
@@ -73,14 +70,6 @@ loadState v k (some c) s = pick (cleanState k c) (loadBlock v k c s) (noRecord 2
 abbrev pub loadKind : StoredVersion → Option Kind → List ℕ → LoadAnswer
 loadKind v none s = noRecord 17
 loadKind v (some k) s = loadState v k (stateIn v s) s
-
--- version 1 has no state to refuse: behind the kind code only the length is checked, so its reader never answers 24
-pub stateless : (k : Kind) (s : List ℕ) → loadKind One (some k) s ≡ loadBlock One k Absent s
-stateless Local s = refl
-stateless Unspecified s = refl
-stateless (Ip4 t) s = refl
-stateless (Ip6 t) s = refl
-stateless (Unix t) s = refl
 
 -- "The reader checks in this order: under 6 bytes 18, mark 15, version 16, code 17, total length 18"; K7: "Checks keep the outline's order …
 -- lengths grow by one, and under 7 bytes is 18"

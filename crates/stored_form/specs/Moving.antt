@@ -2,30 +2,34 @@
 use mathlib.Core.Path.{_≡_, refl, sym, ap, ap₂, _∙_, subst}
 use mathlib.Core.Bool.{Bool}
 use mathlib.Core.List.{List, _∷_, _++_}
-use mathlib.Core.Option.{Option}
-use Prim.Native.Nat.{ℕ, suc, _≤_}
+use mathlib.Core.Option.{Option, some, none}
+use Prim.Native.Nat.{ℕ, suc, _+_, _≤_}
 use native.Mathlib.Omega.{arith}
 use borrow.Author.Tests.{le-leb, ltb-true, ltb-false}
-use lib.Dec.{ltb}
+use lib.Dec.{eqb, ltb}
 use lib.ListN.{length, getD}
 use Rattle.exact.specs.Claim.{AllBytes}
 use Rattle.exact.specs.Pick.{pick, pick-by}
+use Rattle.record.specs.declared.Kind.{Kind}
+use Rattle.record.specs.declared.Kind.the-variants.{Local, Unspecified, Ip4, Ip6, Unix}
 use Rattle.record.specs.declared.Checksum.{Checksum}
 use Rattle.record.specs.declared.Checksum.the-variants.{Absent, Matched}
 use Rattle.record.specs.declared.Record.{Record}
+use Rattle.record.specs.Kinds.{blockLength}
 use Rattle.clean.specs.UnusedLaws.{clean-test}
 use Rattle.address_block.specs.AddressBlock.{addressBlock}
 use Rattle.answer.specs.Answers.{WriteAnswer, wrote, refuses, outputAfter}
 use Rattle.answer.specs.OutputLaws.{not-wrote, written-front}
 use Rattle.stored_form.specs.declared.StoredVersion.{StoredVersion}
 use Rattle.stored_form.specs.declared.StoredVersion.the-variants.{One, Two}
-use Rattle.stored_form.specs.Heads.{mark, versionBytes, stateBytes, Keeps}
+use Rattle.kind_code.specs.Codes.{kindOf}
+use Rattle.stored_form.specs.Heads.{mark, versionBytes, stateBytes, headLength, Keeps}
 use Rattle.stored_form.specs.HeadLaws.{keeps-test, head-state, behind-head}
 use Rattle.stored_form.specs.Stored.{stored, keptAnswer, storeAnswer}
-use Rattle.stored_form.specs.Loading.{LoadAnswer, loads, noRecord, loadAnswer}
+use Rattle.stored_form.specs.Loading.{LoadAnswer, loads, noRecord, hasMark, hasVersion, loadBlock, loadKind, loadAnswer}
 use Rattle.stored_form.specs.Meaning.{Form}
 use Rattle.stored_form.specs.LoadLaws.{answer-short, answer-version}
-use Rattle.stored_form.specs.RoundTrip.{stored-length, load-stored, load-again, store-written}
+use Rattle.stored_form.specs.RoundTrip.{stored-length, load-stored, load-again, not-loaded, store-written}
 use Rattle.stored_form.specs.Converting.{stateSaid, converted, convertBy, convertAnswer, LoadThenStore, Returns, GoesBack}
 
 -- ── a stored form, moved ──
@@ -159,3 +163,32 @@ one-for-two s r form =
     let size = ap length (form .same) in
     let long = ltb-false (length s) 7 t in
     ap (loadAnswer Two) (sym (form .same)) ∙ answer-version Two (stored One r) (omega arith) refl refl)
+
+-- ── version 1 has no state to refuse ──
+module _ (s : List ℕ) where
+  abbrev Not24 : LoadAnswer → Type 0
+  Not24 a = a ≡ noRecord 24 → ⊥
+
+  other-number : (k : ℕ) → (k ≡ 24 → ⊥) → Not24 (noRecord k)
+  other-number k other e = let same : k ≡ 24 = cc in other same
+
+  by-length : (k : Kind) → Not24 (loadBlock One k Absent s)
+  by-length k =
+      pick-by Not24 (eqb (length s) (headLength One + blockLength k)) (λ t e. not-loaded 24 _ (sym e)) (λ t. other-number 18 (λ e. omega arith))
+
+  by-kind : (o : Option Kind) → Not24 (loadKind One o s)
+  by-kind none = other-number 17 (λ e. omega arith)
+  by-kind (some Local) = by-length Local
+  by-kind (some Unspecified) = by-length Unspecified
+  by-kind (some (Ip4 t)) = by-length (Ip4 t)
+  by-kind (some (Ip6 t)) = by-length (Ip6 t)
+  by-kind (some (Unix t)) = by-length (Unix t)
+
+  -- so its reader never answers 24, whatever the bytes
+  pub never-24 : loadAnswer One s ≡ noRecord 24 → ⊥
+  never-24 =
+      pick-by Not24 (ltb (length s) (headLength One)) (λ t. other-number 18 (λ e. omega arith))
+      (λ t.
+      pick-by Not24 (hasMark s)
+      (λ t. pick-by Not24 (hasVersion One s) (λ t. by-kind (kindOf (getD s 5 0))) (λ t. other-number 16 (λ e. omega arith)))
+      (λ t. other-number 15 (λ e. omega arith)))
