@@ -1,2 +1,3 @@
 pub mod ReadInterface
 pub mod LoadInterface
+pub mod AcceptedTold

@@ -13,7 +13,8 @@ use Rattle.checksum.specs.State.{stateFrom, stateOn}
 use Rattle.checked_reader.specs.declared.Check.{Check}
 use Rattle.checked_reader.specs.CheckedReading.{toldCheck}
 use Rattle.read_interface.specs.ReadInterface.{spoken, ReadTold}
-use Rattle.read_interface.proofs.CheckedLaws.{passed-on, AcceptedTold, accepted-told, state-told, long-numbers, long-connection, state-written, wrong-written}
+use Rattle.read_interface.specs.AcceptedTold.{AcceptedTold, accepted-told, long-numbers, long-connection}
+use Rattle.read_interface.proofs.CheckedLaws.{passed-on, state-told, state-written, wrong-written}
 use borrow.Author.Needs.{needs}
 use Rattle.read_interface.proofs.read_checked.Statement.{statement}
 use Rattle.read_interface.proofs.read_checked.Tie as tie
