@@ -1,12 +1,14 @@
 // The C library: the readers and writers for C callers, over numbers and bytes (include/dawnhawse.h). A static library exports the functions of
-// its own crate only, so each stands here and passes on to `read_interface`, `write_interface`, `tlv_interface` or `crc`. No public function has a `requires`.
+// its own crate only, so each stands here and passes on to an interface crate or to `crc`. No public function has a `requires`.
 mod crc32c;
+mod doorman;
 mod read;
 mod stored;
 mod tlvs;
 mod write;
 
 pub use crc32c::dawnhawse_crc32c;
+pub use doorman::dawnhawse_doorman;
 pub use read::dawnhawse_read;
 pub use read::dawnhawse_read_checked;
 pub use stored::dawnhawse_back;

@@ -1,0 +1,216 @@
+-- What holds of the answer to all tables and all bytes (document 02, K14): one answer is claimed; bytes behind the header change none but "more"; the
+-- order of the rows does not matter; what one more row changes; and where a level comes from.
+use mathlib.Core.Path.{_≡_, refl, sym, ap, _∙_, subst}
+use mathlib.Core.Bool.{Bool, true, false}
+use mathlib.Core.List.{List, [], _∷_, _++_, List·Memᴰ, List·Permᴰ, Permᴰ·symm}
+use mathlib.Core.Logic.{_↔_, _⊎_, inl, inr, ⊎-elim}
+use mathlib.Core.Option.{Option, some, none}
+use Prim.Native.Nat.{ℕ}
+use native.Mathlib.Omega.{arith}
+use lib.Dec.{eqb, leb}
+use lib.ListN.{length}
+use Rattle.exact.specs.Claim as Claim
+use Rattle.exact.specs.Pick.{pick, pick-by, never}
+use Rattle.record.specs.declared.Transport.the-variants.{Stream, Datagram}
+use Rattle.record.specs.declared.Kind.{Kind}
+use Rattle.record.specs.declared.Kind.the-variants.{Local, Unspecified, Ip4, Ip6, Unix}
+use Rattle.header.specs.Header.{Header}
+use Rattle.header.specs.Demand.{Judges}
+use Rattle.fields.specs.Exactness.{verdict, judges, judges-only, judges-stays}
+use Rattle.prefix.specs.Prefix.{Prefix, Matches}
+use Rattle.prefix_table.specs.Table.{rowsOf, GoodRows, Good}
+use Rattle.prefix_table.specs.TableTests.{goodTable}
+use Rattle.prefix_table.specs.TableLaws.{table-tested}
+use Rattle.prefix_table.specs.Levels.{level-decides, decides-one, perm-good, perm-level, one-more-row, level-from}
+use Rattle.unique_id.specs.UniqueId.{Value, idIn}
+use Rattle.admission.specs.Profile.{Admission, admitted, more, refused, denied, byId, ifShort, byKind, profile}
+use Rattle.admission.specs.Admits.{SourceLevel, Admits, bad-table, unfinished, no-header, header, sourceLevel, admissionBy, admission}
+
+-- ── one answer is claimed ──
+module _ (rows : List Prefix) (source : List ℕ) where
+  source-decides : (k : Kind) → SourceLevel rows k source (sourceLevel rows k source)
+  source-decides Local = refl
+  source-decides Unspecified = refl
+  source-decides (Ip4 t) = level-decides 4 source rows
+  source-decides (Ip6 t) = level-decides 6 source rows
+  source-decides (Unix t) = refl
+
+  source-one : GoodRows rows → (k : Kind) (l : ℕ) → SourceLevel rows k source l → l ≡ sourceLevel rows k source
+  source-one good Local l d = d
+  source-one good Unspecified l d = d
+  source-one good (Ip4 t) l d = decides-one 4 source rows good l d
+  source-one good (Ip6 t) l d = decides-one 6 source rows good l d
+  source-one good (Unix t) l d = d
+
+-- of a good table, and of another
+pub by-good : (table s : List ℕ) → Good table → admission table s ≡ admissionBy (rowsOf table) (verdict s)
+by-good table s good = rw (table-tested table .1 good)
+
+pub by-bad : (table s : List ℕ) → (Good table → ⊥) → admission table s ≡ denied 34
+by-bad table s bad =
+    pick-by (λ (a : Admission). a ≡ denied 34) (goodTable table) (λ e. absurd (bad (table-tested table .0 e))) (λ e. refl)
+
+pub admits : (table s : List ℕ) → Admits table s (admission table s)
+admits table s =
+    pick-by (Admits table s) (goodTable table) (λ e. by (table-tested table .0 e) (verdict s) (judges s))
+    (λ e. bad-table (λ good. never (sym e ∙ table-tested table .1 good)))
+  where
+    by : Good table → (v : Claim.Verdict Header) → Judges v s → Admits table s (admissionBy (rowsOf table) v)
+    by good (Claim.accepted h n) j = header h n _ good j (source-decides (rowsOf table) (h .«record» .source) (h .«record» .kind))
+    by good (Claim.more n) j = unfinished n good j
+    by good (Claim.refused k p) j = no-header k p good j
+
+pub admits-only : (table s : List ℕ) (a : Admission) → Admits table s a → a ≡ admission table s
+admits-only table s _ (bad-table bad) = sym (by-bad table s bad)
+admits-only table s _ (unfinished n good j) =
+    ap (admissionBy (rowsOf table)) (judges-only (Claim.more n) s j) ∙ sym (by-good table s good)
+admits-only table s _ (no-header k p good j) =
+    ap (admissionBy (rowsOf table)) (judges-only (Claim.refused k p) s j) ∙ sym (by-good table s good)
+admits-only table s _ (header h n level good j d) =
+    ap (profile h n) (source-one (rowsOf table) (h .«record» .source) (good .rows) (h .«record» .kind) level d)
+    ∙ ap (admissionBy (rowsOf table)) (judges-only (Claim.accepted h n) s j)
+    ∙ sym (by-good table s good)
+
+-- ── "bytes behind the header change no answer but "more"" ──
+pub admission-stays : (table s t : List ℕ) → ((n : ℕ) → admission table s ≡ more n → ⊥) → admission table (s ++ t) ≡ admission table s
+admission-stays table s t decided = by (goodTable table) refl
+  where
+    same : (v : Claim.Verdict Header) → verdict s ≡ v → ((n : ℕ) → admissionBy (rowsOf table) v ≡ more n → ⊥) → verdict (s ++ t) ≡ v
+    same v e d =
+        sym
+        (judges-only v (s ++ t)
+        (judges-stays v s t (λ n is. d n (ap (admissionBy (rowsOf table)) is)) (subst (λ (w : Claim.Verdict Header). Judges w s) e (judges s))))
+
+    by : (b : Bool) → goodTable table ≡ b → admission table (s ++ t) ≡ admission table s
+    by true e =
+        let d : (n : ℕ) → admissionBy (rowsOf table) (verdict s) ≡ more n → ⊥ = λ n is. decided n (rw e is) in
+        ap (λ (v : Claim.Verdict Header). pick (goodTable table) (admissionBy (rowsOf table) v) (denied 34)) (same (verdict s) refl d)
+    by false e = rw e
+
+-- ── "the order of the rows does not matter" ──
+module _ (one other : List ℕ) (size : length one ≡ length other) (perm : List·Permᴰ (rowsOf one) (rowsOf other)) where
+  good-again : Good one → Good other
+  good-again good = record { whole = rw size at (good .whole); rows = perm-good perm (good .rows) }
+
+  source-again : Good one → (k : Kind) (source : List ℕ) → sourceLevel (rowsOf one) k source ≡ sourceLevel (rowsOf other) k source
+  source-again good Local source = refl
+  source-again good Unspecified source = refl
+  source-again good (Ip4 t) source = perm-level perm (good .rows) 4 source
+  source-again good (Ip6 t) source = perm-level perm (good .rows) 6 source
+  source-again good (Unix t) source = refl
+
+  by-again : Good one → (v : Claim.Verdict Header) → admissionBy (rowsOf one) v ≡ admissionBy (rowsOf other) v
+  by-again good (Claim.accepted h n) = ap (profile h n) (source-again good (h .«record» .kind) (h .«record» .source))
+  by-again good (Claim.more n) = refl
+  by-again good (Claim.refused k p) = refl
+
+pub order-free : (one other s : List ℕ) → length one ≡ length other → List·Permᴰ (rowsOf one) (rowsOf other) → admission one s ≡ admission other s
+order-free one other s size perm = by (goodTable one) refl
+  where
+    by : (b : Bool) → goodTable one ≡ b → admission one s ≡ admission other s
+    by true e =
+        let good = table-tested one .0 e in
+        by-good one s good ∙ by-again one other size perm good (verdict s) ∙ sym (by-good other s (good-again one other size perm good))
+    by false e =
+        let bad : Good one → ⊥ = λ good. never (sym e ∙ table-tested one .1 good) in
+        by-bad one s bad ∙ sym (by-bad other s (λ good. bad (good-again other one (sym size) (Permᴰ·symm perm) good)))
+
+-- ── "a table with one more row of level l changes levels only for sources in that prefix" ──
+-- a source of this kind lies in the prefix
+abbrev pub InPrefix : Prefix → Kind → (source : List ℕ) → Type 0
+InPrefix p Local source = ⊥
+InPrefix p Unspecified source = ⊥
+InPrefix p (Ip4 t) source = Matches p 4 source
+InPrefix p (Ip6 t) source = Matches p 6 source
+InPrefix p (Unix t) source = ⊥
+
+module _ (p : Prefix) (table larger : List ℕ) (good : Good table) (still : Good larger) (perm : List·Permᴰ (rowsOf larger) (p ∷ rowsOf table)) where
+  source-changes : (k : Kind) (source : List ℕ)
+      → (sourceLevel (rowsOf larger) k source ≡ sourceLevel (rowsOf table) k source) ⊎ (InPrefix p k source × (sourceLevel (rowsOf larger) k source ≡ p .level))
+  source-changes Local source = inl refl
+  source-changes Unspecified source = inl refl
+  source-changes (Ip4 t) source = one-more-row p (rowsOf table) (rowsOf larger) perm (still .rows) 4 source
+  source-changes (Ip6 t) source = one-more-row p (rowsOf table) (rowsOf larger) perm (still .rows) 6 source
+  source-changes (Unix t) source = inl refl
+
+  -- the answer is the same, or the source lies in the prefix and has its level
+  pub one-more-changes : (s : List ℕ)
+      → (admission larger s ≡ admission table s)
+      ⊎ ((h : Header) × (n : ℕ) × Judges (Claim.accepted h n) s × InPrefix p (h .«record» .kind) (h .«record» .source) × (admission larger s ≡ profile h n (p .level)))
+  one-more-changes s = by (verdict s) refl (judges s)
+    where
+      same : (v : Claim.Verdict Header) → verdict s ≡ v → admissionBy (rowsOf larger) v ≡ admissionBy (rowsOf table) v → admission larger s ≡ admission table s
+      same v e f =
+          by-good larger s still ∙ ap (admissionBy (rowsOf larger)) e ∙ f ∙ ap (admissionBy (rowsOf table)) (sym e) ∙ sym (by-good table s good)
+
+      by : (v : Claim.Verdict Header) → verdict s ≡ v → Judges v s
+          → (admission larger s ≡ admission table s)
+          ⊎ ((h : Header) × (n : ℕ) × Judges (Claim.accepted h n) s × InPrefix p (h .«record» .kind) (h .«record» .source) × (admission larger s ≡ profile h n (p .level)))
+      by (Claim.accepted h n) e j =
+          ⊎-elim (λ kept. inl (same (Claim.accepted h n) e (ap (profile h n) kept)))
+          (λ changed. inr (h, n, j, changed .0, by-good larger s still ∙ ap (admissionBy (rowsOf larger)) e ∙ ap (profile h n) (changed .1)))
+          (source-changes (h .«record» .kind) (h .«record» .source))
+      by (Claim.more n) e j = inl (same (Claim.more n) e refl)
+      by (Claim.refused k q) e j = inl (same (Claim.refused k q) e refl)
+
+-- ── "no source gets a level that no matching row has, but 0" ──
+-- the level of an answer; 0 where there is none
+abbrev pub levelOf : Admission → ℕ
+levelOf (admitted level n start size) = level
+levelOf (more n) = 0
+levelOf (refused k p) = 0
+levelOf (denied k) = 0
+
+-- the level is 0, or that of a row of the table in whose prefix the source of the header lies
+abbrev pub FromRow : (table s : List ℕ) (level : ℕ) → Type 0
+FromRow table s level =
+    (level ≡ 0)
+    ⊎ ((h : Header) × (n : ℕ) × (p : Prefix) × Judges (Claim.accepted h n) s × List·Memᴰ p (rowsOf table) × InPrefix p (h .«record» .kind) (h .«record» .source) × (p .level ≡ level))
+
+-- a profile gives the level of the source, or none
+abbrev Given : (level : ℕ) → Admission → Type 0
+Given level a = (levelOf a ≡ 0) ⊎ (levelOf a ≡ level)
+
+profile-level : (h : Header) (n level : ℕ) → Given level (profile h n level)
+profile-level h n level =
+    pick-by (Given level) (eqb (h .version) 2) (λ e. by-kind (h .«record» .kind)) (λ e. inl refl)
+  where
+    by-id : (v : Option Value) → Given level (byId v (length (h .area)) n level)
+    by-id (some v) = inr refl
+    by-id none = inl refl
+
+    short : (a : Admission) → Given level a → Given level (ifShort n a)
+    short a g = pick-by (Given level) (leb n 536) (λ e. g) (λ e. inl refl)
+
+    by-kind : (k : Kind) → Given level (byKind k (h .area) n level)
+    by-kind Local = short (admitted 0 n 0 0) (inl refl)
+    by-kind Unspecified = inl refl
+    by-kind (Ip4 Stream) = short _ (by-id (idIn (h .area)))
+    by-kind (Ip4 Datagram) = inl refl
+    by-kind (Ip6 Stream) = short _ (by-id (idIn (h .area)))
+    by-kind (Ip6 Datagram) = inl refl
+    by-kind (Unix t) = inl refl
+
+pub level-from-row : (table s : List ℕ) → FromRow table s (levelOf (admission table s))
+level-from-row table s =
+    pick-by (λ (a : Admission). FromRow table s (levelOf a)) (goodTable table) (λ e. by (verdict s) (judges s)) (λ e. inl refl)
+  where
+    source-from : (k : Kind) (source : List ℕ)
+        → (sourceLevel (rowsOf table) k source ≡ 0)
+        ⊎ ((p : Prefix) × List·Memᴰ p (rowsOf table) × InPrefix p k source × (p .level ≡ sourceLevel (rowsOf table) k source))
+    source-from Local source = inl refl
+    source-from Unspecified source = inl refl
+    source-from (Ip4 t) source = level-from (rowsOf table) 4 source
+    source-from (Ip6 t) source = level-from (rowsOf table) 6 source
+    source-from (Unix t) source = inl refl
+
+    by : (v : Claim.Verdict Header) → Judges v s → FromRow table s (levelOf (admissionBy (rowsOf table) v))
+    by (Claim.accepted h n) j =
+        let source = h .«record» .source in
+        let kind = h .«record» .kind in
+        ⊎-elim inl
+        (λ same.
+        ⊎-elim (λ zero. inl (same ∙ zero)) (λ w. inr (h, n, w .0, j, w .1, w .2, w .3 ∙ sym same)) (source-from kind source))
+        (profile-level h n (sourceLevel (rowsOf table) kind source))
+    by (Claim.more n) j = inl refl
+    by (Claim.refused k p) j = inl refl

@@ -1,0 +1,4 @@
+pub mod Profile
+pub mod Admits
+pub mod Answers
+pub mod Demand

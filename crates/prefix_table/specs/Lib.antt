@@ -1,0 +1,4 @@
+pub mod Table
+pub mod TableTests
+pub mod TableLaws
+pub mod Levels

@@ -1,0 +1,2 @@
+pub mod UniqueId
+pub mod IdLaws
