@@ -23,6 +23,9 @@
 //!
 //! The checksum (document 02, K6) is the remainder of a division, bit by bit, of
 //! a copy of the header with zeros in place of the value.
+//!
+//! The profile of diagnostics (document 02, K14) takes each prefix of its table as
+//! a range of addresses; the smallest that holds the source gives the level.
 
 mod address_block;
 pub mod cases;
@@ -35,6 +38,8 @@ mod grammar;
 mod judge;
 mod lookup;
 mod output;
+mod prefix_table;
+mod profile;
 mod record;
 mod refusal;
 mod stored;
@@ -49,6 +54,7 @@ pub use checked::{checked, judge_checked};
 pub use crc32c::crc32c;
 pub use judge::{judge, Judge};
 pub use lookup::{lookup, Answer, Lookup};
+pub use profile::{admit, Admission};
 pub use record::{Checksum, Kind, Record, Transport};
 pub use stored::{back, forward, load, store, StoredVersion};
 pub use tlv_area::{next, step, tlv_list, Step};

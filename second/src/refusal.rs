@@ -25,3 +25,15 @@ pub const WRONG_CHECKSUM: u8 = 23;
 /// The state of a stored form is none or stands beside a kind that cannot have it,
 /// or the version has no form for it.
 pub const STORED_STATE: u8 = 24;
+
+/// The profile of diagnostics: the header is not of version 2.
+pub const NOT_VERSION_2: u8 = 30;
+/// It is neither local nor IPv4 or IPv6 stream.
+pub const NOT_LOCAL_OR_STREAM: u8 = 31;
+/// It has more than 536 bytes.
+pub const HEADER_TOO_LONG: u8 = 32;
+/// It is not local and has not exactly one 0x05 TLV, of 1 to 128 bytes.
+pub const UNIQUE_ID: u8 = 33;
+
+/// A table of prefixes is bad.
+pub const PREFIX_TABLE: u8 = 34;

@@ -1,7 +1,8 @@
-//! What the judge answers, what is written and stored, and what is seen in
-//! TLVs. The expected answers are written by hand from documents 01 and 02;
-//! none is taken from a program under comparison.
+//! What the judge answers, what is written and stored, what is seen in TLVs, and
+//! what the profile admits. The expected answers are written by hand from
+//! documents 01 and 02; none is taken from a program under comparison.
 
+mod admissions;
 mod binary_block;
 mod checked_headers;
 mod checked_readings;
@@ -13,6 +14,8 @@ mod forms;
 mod helpers;
 mod lookup;
 mod moved_forms;
+mod prefix_table;
+mod profile;
 mod program;
 mod slips;
 mod source_documents;
