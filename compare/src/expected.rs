@@ -1,7 +1,7 @@
 //! What the C functions must leave: the words of include/dawnhawse.h, with the second program's answers.
 use crate::connection::{self, SIZE};
 use crate::{Left, BYTE, NUMBER};
-use second::{Answer, Kind, Record, Step, StoredVersion, Verdict};
+use second::{Admission, Answer, Kind, Record, Step, StoredVersion, Verdict};
 
 const NO_ROOM: u32 = 14;
 const END: u32 = 252;
@@ -155,4 +155,17 @@ pub fn load(version: StoredVersion, stored: &[u8], connection_len: usize) -> Lef
 
 pub fn crc32c(bytes: &[u8]) -> Left {
     untouched(second::crc32c(bytes), 0, 0)
+}
+
+pub fn doorman(table: &[u8], bytes: &[u8], numbers_len: usize) -> Left {
+    if numbers_len < 4 {
+        return untouched(NO_ROOM, numbers_len, 0);
+    }
+    let (answer, four) = match second::admit(table, bytes) {
+        Admission::Admitted { level, length, unique_id } => (0, [u64::from(level), length as u64, unique_id.start as u64, unique_id.len() as u64]),
+        Admission::More(least) => (MORE, [least as u64, 0, 0, 0]),
+        Admission::Refused { number, place } => (u32::from(number), [place as u64, 0, 0, 0]),
+        Admission::NotAdmitted { number } => (u32::from(number), [0; 4]),
+    };
+    told(answer, four, numbers_len, Vec::new())
 }

@@ -1,7 +1,9 @@
 //! The proved library and the second program on the same inputs: `library` calls the one through its C interface, `expected` says by the
 //! other what it must leave, `interface` compares the two on inputs made in `inputs` and `headers`, and `whole` on every prefix of whole headers.
 //! The checksum (document 02, K6) has its inputs in `checksum_headers`, and is compared in `crc32c`, `checked_reading` and `checked_writing`; stored forms
-//! (K7) are compared in `stored`.
+//! (K7) are compared in `stored`. The profile of diagnostics (K14) has its inputs in `prefix_tables` and `admission_headers`, and is compared in `admission`.
+pub mod admission;
+pub mod admission_headers;
 pub mod checked_reading;
 pub mod checked_writing;
 pub mod checksum_headers;
@@ -13,6 +15,7 @@ pub mod inputs;
 pub mod interface;
 pub mod library;
 pub mod outcome;
+pub mod prefix_tables;
 pub mod random;
 pub mod records;
 pub mod stored;
@@ -65,6 +68,7 @@ pub fn same(here: &Left, there: &Left, input: impl FnOnce() -> String) -> Result
     Err(format!("{}: the library leaves {here}, the second program asks for {there}", input()))
 }
 
+/// The first bytes of an input; a table of 64 prefixes, of 1216 bytes, is shown whole.
 pub fn hex(bytes: &[u8]) -> String {
-    bytes.iter().take(400).map(|b| format!("{b:02x}")).collect()
+    bytes.iter().take(1250).map(|b| format!("{b:02x}")).collect()
 }

@@ -1,5 +1,5 @@
-//! The proved library through its C interface (include/dawnhawse.h), with canaries on both sides of each buffer that it may write, and of the connections and
-//! forms that are stored, loaded and moved.
+//! The proved library through its C interface (include/dawnhawse.h), with canaries on both sides of each buffer that it may write, of the connections and
+//! forms that are stored, loaded and moved, and of a table of prefixes and the bytes that it is used on.
 use crate::{hex, Left, BYTE, NUMBER};
 use second::StoredVersion;
 
@@ -21,6 +21,7 @@ extern "C" {
     fn dawnhawse_forward(stored: *const u8, stored_len: usize, out: *mut u8, out_len: usize, numbers: *mut u64, numbers_len: usize) -> u32;
     fn dawnhawse_back(stored: *const u8, stored_len: usize, out: *mut u8, out_len: usize, numbers: *mut u64, numbers_len: usize) -> u32;
     fn dawnhawse_crc32c(bytes: *const u8, bytes_len: usize) -> u32;
+    fn dawnhawse_doorman(table: *const u8, table_len: usize, bytes: *const u8, bytes_len: usize, numbers: *mut u64, numbers_len: usize) -> u32;
 }
 
 /// How many canaries stand on either side.
@@ -60,14 +61,18 @@ fn lend(input: &[u8], numbers_len: usize, bytes_len: usize, call: impl FnOnce(*m
     Left { answer, numbers: numbers.left(input), bytes: bytes.left(input) }
 }
 
-/// The same, and lends the input too, which must stay as it was.
-fn lend_all(input: &[u8], numbers_len: usize, bytes_len: usize, call: impl FnOnce(*const u8, *mut u64, *mut u8) -> u32) -> Left {
+/// Lends the input to a call, which must leave it as it was.
+fn lend_input(input: &[u8], call: impl FnOnce(*const u8) -> Left) -> Left {
     let mut lent = Lent::new(BYTE, input.len());
     lent.all[EDGE..][..input.len()].copy_from_slice(input);
-    let pointer = lent.pointer();
-    let left = lend(input, numbers_len, bytes_len, |numbers, bytes| call(pointer, numbers, bytes));
+    let left = call(lent.pointer());
     assert!(lent.left(input) == input, "{}: bytes lent to be read were written", hex(input));
     left
+}
+
+/// Lends the input, numbers and bytes.
+fn lend_all(input: &[u8], numbers_len: usize, bytes_len: usize, call: impl FnOnce(*const u8, *mut u64, *mut u8) -> u32) -> Left {
+    lend_input(input, |lent| lend(input, numbers_len, bytes_len, |numbers, bytes| call(lent, numbers, bytes)))
 }
 
 // SAFETY, of each call below: a pointer is valid for the length beside it, and what may be written overlaps nothing.
@@ -140,4 +145,14 @@ pub fn move_from(version: StoredVersion, stored: &[u8], room: usize, numbers_len
 /// The checksum's number is its answer.
 pub fn crc32c(bytes: &[u8]) -> Left {
     lend(bytes, 0, 0, |_, _| unsafe { dawnhawse_crc32c(bytes.as_ptr(), bytes.len()) })
+}
+
+/// A written canary is told with the table and the bytes behind it.
+pub fn doorman(table: &[u8], bytes: &[u8], numbers_len: usize) -> Left {
+    let input = [table, bytes].concat();
+    lend_input(table, |rows| {
+        lend_input(bytes, |lent| {
+            lend(&input, numbers_len, 0, |numbers, _| unsafe { dawnhawse_doorman(rows, table.len(), lent, bytes.len(), numbers, numbers_len) })
+        })
+    })
 }

@@ -4,7 +4,7 @@ mod programs;
 
 use compare::inputs::{self, Group};
 use compare::random::Random;
-use compare::{checked_reading, checked_writing, crc32c, hex, interface, stored, whole};
+use compare::{admission, checked_reading, checked_writing, crc32c, hex, interface, stored, whole};
 use std::path::{Path, PathBuf};
 
 const SEED: u64 = 0x0D0A_0D0A_000D_0A51;
@@ -49,6 +49,16 @@ fn main() {
         checked_writing::refusals(),
         checked_writing::longest(),
         checked_writing::generated(&mut random, GENERATED / 20),
+        admission::borders(),
+        admission::orders(),
+        admission::row_numbers(),
+        admission::address_bits(),
+        admission::table_lengths(),
+        admission::duplicates(),
+        admission::steps(),
+        admission::prefixes(),
+        admission::rooms(),
+        admission::generated(&mut random, GENERATED / 8),
     ] {
         compared += outcome.compared;
         println!("compare: {} {}: {}", outcome.compared, outcome.name, outcome.difference.as_deref().unwrap_or("the same"));

@@ -15,18 +15,19 @@ pub unsafe extern "C" fn LLVMFuzzerTestOneInput(data: *const u8, size: usize) ->
     0
 }
 
-/// The first byte chooses the function (its low four bits) and how many numbers are lent, the next two are a room, a place or a limit, and
-/// the rest is the input.
+/// The first byte chooses the function (its low five bits) and how many numbers are lent, the next two are a room, a place, a limit, or how many
+/// rows and further bytes the input begins with, and the rest is the input.
 fn compare(input: &[u8]) -> Result<(), String> {
     let [choice, high, low, input @ ..] = input else { return Ok(()) };
-    let numbers = match choice >> 4 {
+    let numbers = match choice >> 5 {
         few @ 0..=3 => usize::from(few),
         _ => 6,
     };
     let number = usize::from(u16::from_be_bytes([*high, *low]));
     let (connection, area) = input.split_at(input.len().min(SIZE));
+    let (table, bytes) = input.split_at(input.len().min(19 * usize::from(*high) + usize::from(*low)));
     let [one, two] = STORED_VERSIONS;
-    let (here, there) = match choice & 15 {
+    let (here, there) = match choice & 31 {
         0 => (library::read(input, numbers, SIZE + 3), expected::read(input, numbers, SIZE + 3)),
         1 => (library::next(input, number, numbers), expected::next(input, number, numbers)),
         2 => (library::step(input, number, numbers), expected::step(input, number, numbers)),
@@ -43,10 +44,11 @@ fn compare(input: &[u8]) -> Result<(), String> {
         13 => (library::move_from(one, input, number, numbers), expected::move_from(one, input, number, numbers)),
         14 => (library::move_from(two, input, number, numbers), expected::move_from(two, input, number, numbers)),
         // Right checksums would hardly be guessed.
-        _ => {
+        15 => {
             let input = &checksum_headers::righted(input);
             (library::read_checked(input, numbers, SIZE + 3), expected::read_checked(input, numbers, SIZE + 3))
         }
+        _ => (library::doorman(table, bytes, numbers), expected::doorman(table, bytes, numbers)),
     };
-    same(&here, &there, || format!("function {}, {number}, {numbers} numbers, {}", choice & 15, hex(input)))
+    same(&here, &there, || format!("function {}, {number}, {numbers} numbers, {}", choice & 31, hex(input)))
 }

@@ -1,7 +1,7 @@
 //! The long run: the C library against the second program until so many inputs are compared. A round's seed is printed with a difference.
 //! Usage: long HOW-MANY [FIRST-SEED]
 use compare::random::Random;
-use compare::{checked_reading, checked_writing, crc32c, headers, inputs, interface, stored, whole};
+use compare::{admission, checked_reading, checked_writing, crc32c, headers, inputs, interface, stored, whole};
 use std::time::{Duration, Instant};
 
 /// Headers read, and areas and records made, in a round.
@@ -53,6 +53,7 @@ fn round(short: &[Vec<u8>], seed: u64) -> Vec<(usize, Option<String>)> {
         crc32c::generated(&mut random, MADE),
         checked_reading::generated(&mut random, READ),
         checked_writing::generated(&mut random, MADE),
+        admission::generated(&mut random, READ / 4),
     ]
     .map(|outcome| (outcome.compared, outcome.difference))
     .into()
