@@ -33,6 +33,7 @@
  *   dawnhawse_forward             1408   nothing: at most 222 bytes are read and 223 written
  *   dawnhawse_back                1408   nothing: at most 223 bytes are read and 222 written
  *   dawnhawse_crc32c              1152   the bytes, each looked at once
+ *   dawnhawse_doorman             1024   the pairs of the table's rows, at most 2016; then as dawnhawse_read, TLVs up to five times
  *
  * Stack is a bound in bytes, the return address among them; tests/stack.c measures each function on a painted stack.
  */
@@ -43,9 +44,9 @@
 #include <stdint.h>
 
 /* The release of the library; README says what each of its numbers counts. */
-#define DAWNHAWSE_RELEASE "0.5.0"
+#define DAWNHAWSE_RELEASE "0.6.0"
 #define DAWNHAWSE_RELEASE_MAJOR 0
-#define DAWNHAWSE_RELEASE_MINOR 5
+#define DAWNHAWSE_RELEASE_MINOR 6
 #define DAWNHAWSE_RELEASE_PATCH 0
 
 #ifdef __cplusplus
@@ -65,6 +66,9 @@ extern "C" {
 
 /* A stored form is whole, and its connection is told. */
 #define DAWNHAWSE_LOADED 0
+
+/* The bytes begin with a whole header that keeps the profile of dawnhawse_doorman, and the level of who called is told. */
+#define DAWNHAWSE_ADMITTED 0
 
 /* The byte at the place told rules a header out; the number says which field holds it. */
 #define DAWNHAWSE_REFUSED_START 1   /* "PROXY " of version 1, or the twelve bytes of the version 2 signature */
@@ -110,6 +114,16 @@ extern "C" {
    dawnhawse_store and dawnhawse_back: the state is matched, for which version 1 of the stored form has no place. */
 #define DAWNHAWSE_WRONG_STATE 24
 
+/* dawnhawse_doorman: the bytes begin with a whole header that does not keep the profile; the number says in what. */
+#define DAWNHAWSE_NOT_ADMITTED_VERSION 30   /* it is of version 1 */
+#define DAWNHAWSE_NOT_ADMITTED_KIND 31      /* it is unspecified, a datagram or UNIX */
+#define DAWNHAWSE_NOT_ADMITTED_LENGTH 32    /* it has more than 536 bytes */
+#define DAWNHAWSE_NOT_ADMITTED_UNIQUE_ID 33 /* not local, it has no 0x05 TLV, or several, or one whose value has not 1 to 128 bytes */
+
+/* dawnhawse_doorman: the table is not whole rows, or has more than 64, or two with the same prefix, or one with a number out of range
+   or with a bit set beyond its prefix. */
+#define DAWNHAWSE_WRONG_TABLE 34
+
 /* dawnhawse_next, dawnhawse_step: the walk is at the end of the area. */
 #define DAWNHAWSE_END 252
 
@@ -124,7 +138,7 @@ extern "C" {
 
 #define DAWNHAWSE_NUMBERS 4
 
-/* dawnhawse_read and dawnhawse_read_checked */
+/* dawnhawse_read and dawnhawse_read_checked; more and refused also dawnhawse_doorman */
 #define DAWNHAWSE_LENGTH 0         /* accepted: the header's length, 15 to 65551; the payload starts there */
 #define DAWNHAWSE_LEAST 0          /* more: the fewest further bytes that could make a whole header, 1 to 65535 */
 #define DAWNHAWSE_PLACE 0          /* refused: the place of the first byte that rules a header out, counted from 0 */
@@ -143,10 +157,17 @@ extern "C" {
    dawnhawse_back */
 #define DAWNHAWSE_WRITTEN_LENGTH 0 /* how many bytes were written; the other three numbers are 0 */
 
+/* dawnhawse_doorman */
+#define DAWNHAWSE_LEVEL 0            /* admitted: the level of who called, 0 to 3 */
+#define DAWNHAWSE_ADMITTED_LENGTH 1  /* admitted: the header's length, 16 to 536; the payload starts there */
+#define DAWNHAWSE_UNIQUE_ID_START 2  /* admitted: where the value of the 0x05 TLV starts in the bytes read; 0 for local */
+#define DAWNHAWSE_UNIQUE_ID_LENGTH 3 /* admitted: the value's length, 1 to 128; 0 for local */
+
 /* ---- Outputs: so many bytes are room enough ---- */
 
 #define DAWNHAWSE_LONGEST_V1 104        /* a version 1 line that is written; one that is read has at most 107 */
 #define DAWNHAWSE_LONGEST_HEADER 65551  /* any header */
+#define DAWNHAWSE_LONGEST_ADMITTED 536  /* a header that dawnhawse_doorman admits: 16 + 520 */
 #define DAWNHAWSE_LONGEST_STORED 222    /* a stored form of version 1: 3 + 2 + 1 + 216 */
 #define DAWNHAWSE_LONGEST_STORED_V2 223 /* a stored form of version 2: 3 + 2 + 1 + 1 + 216 */
 
@@ -177,6 +198,18 @@ extern "C" {
 #define DAWNHAWSE_CHECKSUM_ABSENT 0  /* no header was accepted, or it has no checksum, or the reading was not a checked one, or the
                                         connection comes from a stored form of version 1 */
 #define DAWNHAWSE_CHECKSUM_MATCHED 1 /* the header has one checksum, and it is right */
+
+/* ---- A table of address prefixes: uint8_t table[rows * DAWNHAWSE_ROW] ---- */
+
+#define DAWNHAWSE_ROW 19       /* 1 + 1 + 1 + 16 */
+#define DAWNHAWSE_MOST_ROWS 64 /* a table has at most so many; it may have none */
+
+/* An address stands in network order: its first bit is the highest of its first byte. Its bits beyond the prefix are zero, and so are
+   the 12 bytes behind an IPv4 address. */
+#define DAWNHAWSE_ROW_FAMILY 0  /* 1 byte: 4 for IPv4, 6 for IPv6 */
+#define DAWNHAWSE_ROW_BITS 1    /* 1 byte: how many bits of the address are the prefix, 0 to 32 for IPv4, 0 to 128 for IPv6 */
+#define DAWNHAWSE_ROW_LEVEL 2   /* 1 byte: the level of the addresses that begin with the prefix, 0 to 3 */
+#define DAWNHAWSE_ROW_ADDRESS 3 /* 16 bytes: 4 used for IPv4, 16 for IPv6 */
 
 /* ---- Functions ---- */
 
@@ -485,11 +518,58 @@ uint32_t dawnhawse_back(const uint8_t *stored, size_t stored_len, uint8_t *out, 
  */
 uint32_t dawnhawse_crc32c(const uint8_t *bytes, size_t bytes_len);
 
+/*
+ * Whether the bytes received so far begin with a header that diagnostics admit, and the level of who called, by a table of address
+ * prefixes. Admitted is a whole header that keeps this profile: version 2; local, IPv4 stream or IPv6 stream; at most 536 bytes;
+ * and, except for local, exactly one TLV of type 0x05 (unique ID), with a value of 1 to 128 bytes. TLVs of other types may be any:
+ * a checksum is not compared.
+ *
+ * A row of the table matches a source address if it is of the same family and the first bits of both, as many as the row says, are
+ * the same; so a row of 0 bits matches every address of its family. Of the rows that match, the one with the most bits gives the
+ * level; in what order the rows stand does not matter. Where none matches, the level is 0, and it is 0 for local. An IPv4-mapped
+ * IPv6 address, as ::ffff:192.0.2.1, counts as IPv6: no row of family 4 matches it.
+ *
+ * Call it again with all bytes from the first on when more have come: for the same table no answer but DAWNHAWSE_MORE changes when
+ * further bytes follow. Each call checks the table.
+ *
+ * DAWNHAWSE_MORE and its n are those of dawnhawse_read: some continuation is a whole header, but perhaps none that is admitted. Bytes
+ * that no continuation can get admitted, as those of a version 1 line or of a version 2 header with a length over 520, are still
+ * DAWNHAWSE_MORE until the header is whole, which may take 65551 bytes. So limit how much is waited for: where the bytes received
+ * and n are together more than DAWNHAWSE_LONGEST_ADMITTED, no continuation is admitted, and the caller may hang up. A caller who
+ * does so, and reads at most n bytes each time, needs room for 536 bytes only (examples/doorman.c).
+ *
+ * The level is that of the source that the header names. Whoever can send a header can name any source, so take headers from the
+ * proxy only.
+ *
+ *   table, table_len       at most DAWNHAWSE_MOST_ROWS rows of DAWNHAWSE_ROW bytes each; it may be empty; not altered
+ *   bytes, bytes_len       the bytes received so far; not altered
+ *   numbers, numbers_len   at least DAWNHAWSE_NUMBERS elements; those past the fourth stay as they were
+ *
+ * Answers, the first that applies
+ *   DAWNHAWSE_NO_ROOM                  numbers has fewer than 4 elements; it is as it was
+ *   DAWNHAWSE_WRONG_TABLE              whatever the bytes are: table_len is no multiple of 19, or more than 64 * 19 = 1216; or a row
+ *                                      has a family that is not 4 or 6, over 32 bits for 4 or 128 for 6, a level over 3, or a bit
+ *                                      of its 16 address bytes set beyond the prefix; or two rows have the same family, bits and
+ *                                      address, whatever their levels. numbers: 0, 0, 0, 0
+ *   DAWNHAWSE_MORE                     the bytes are the beginning of a header; numbers: n, the fewest further bytes that could make
+ *                                      a whole one, then 0, 0, 0
+ *   1 to 9                             DAWNHAWSE_REFUSED_.., as dawnhawse_read; numbers: place, 0, 0, 0
+ *   DAWNHAWSE_NOT_ADMITTED_VERSION     the header is of version 1; numbers: 0, 0, 0, 0
+ *   DAWNHAWSE_NOT_ADMITTED_KIND        it is unspecified, a datagram or UNIX; numbers: the same
+ *   DAWNHAWSE_NOT_ADMITTED_LENGTH      it has more than 536 bytes; numbers: the same
+ *   DAWNHAWSE_NOT_ADMITTED_UNIQUE_ID   it is not local, and has no 0x05 TLV, or several, or one whose value is empty or has more than
+ *                                      128 bytes; numbers: the same
+ *   DAWNHAWSE_ADMITTED                 numbers: the level, the header's length, and the start and length of the 0x05 TLV's value in
+ *                                      bytes; for local 0, the header's length, 0, 0
+ */
+uint32_t dawnhawse_doorman(const uint8_t *table, size_t table_len, const uint8_t *bytes, size_t bytes_len, uint64_t *numbers,
+                           size_t numbers_len);
+
 /* A short name of an answer, for logs; it is never NULL. */
 static inline const char *dawnhawse_answer_name(uint32_t answer)
 {
     switch (answer) {
-    case DAWNHAWSE_ACCEPTED: return "ok"; /* also found, written and loaded */
+    case DAWNHAWSE_ACCEPTED: return "ok"; /* also found, written, loaded and admitted */
     case DAWNHAWSE_REFUSED_START: return "refused-start";
     case DAWNHAWSE_REFUSED_WORD: return "refused-word";
     case DAWNHAWSE_REFUSED_ADDRESS: return "refused-address";
@@ -510,6 +590,11 @@ static inline const char *dawnhawse_answer_name(uint32_t answer)
     case DAWNHAWSE_WRONG_SIZE: return "wrong-size";
     case DAWNHAWSE_WRONG_CHECKSUM: return "wrong-checksum";
     case DAWNHAWSE_WRONG_STATE: return "wrong-state";
+    case DAWNHAWSE_NOT_ADMITTED_VERSION: return "not-admitted-version";
+    case DAWNHAWSE_NOT_ADMITTED_KIND: return "not-admitted-kind";
+    case DAWNHAWSE_NOT_ADMITTED_LENGTH: return "not-admitted-length";
+    case DAWNHAWSE_NOT_ADMITTED_UNIQUE_ID: return "not-admitted-unique-id";
+    case DAWNHAWSE_WRONG_TABLE: return "wrong-table";
     case DAWNHAWSE_END: return "end";
     case DAWNHAWSE_ABSENT: return "absent";
     case DAWNHAWSE_GAVE_UP: return "gave-up";

@@ -11,6 +11,8 @@ static const uint8_t area[] = {0x04, 0, 0};
 static const uint8_t stored[] = {'C', 'S', 'R', 0, 1, DAWNHAWSE_LOCAL};
 static const uint8_t stored_v2[] = {'C', 'S', 'R', 0, 2, DAWNHAWSE_LOCAL, DAWNHAWSE_CHECKSUM_ABSENT};
 static const uint8_t caller[DAWNHAWSE_CONNECTION] = {DAWNHAWSE_IP4_STREAM};
+static const uint8_t row[DAWNHAWSE_ROW] = {4, 8, 1, 10};
+static const uint8_t local[] = {0x0d, 0x0a, 0x0d, 0x0a, 0x00, 0x0d, 0x0a, 'Q', 'U', 'I', 'T', 0x0a, 0x20, 0x00, 0, 0};
 
 /* What may be written, and one place more that never is. */
 static struct lent {
@@ -53,6 +55,9 @@ static void hold(const char *call, uint32_t with_null, uint32_t with_pointer, ui
 #define CALLER caller, sizeof caller
 #define STORED stored, sizeof stored
 #define STORED_V2 stored_v2, sizeof stored_v2
+#define ROW row, sizeof row
+#define CUT_ROW row, sizeof row - 1
+#define HEADER local, sizeof local
 
 int main(void)
 {
@@ -120,6 +125,13 @@ int main(void)
     HOLD(dawnhawse_back(STORED_V2, BYTES, NOTHING), DAWNHAWSE_NO_ROOM);
     HOLD(dawnhawse_back(NOTHING, NOTHING, NOTHING), DAWNHAWSE_WRONG_SIZE);
     HOLD(dawnhawse_crc32c(NOTHING), 0);
+    HOLD(dawnhawse_doorman(NOTHING, HEADER, NUMBERS), DAWNHAWSE_ADMITTED);
+    HOLD(dawnhawse_doorman(ROW, NOTHING, NUMBERS), DAWNHAWSE_MORE);
+    HOLD(dawnhawse_doorman(CUT_ROW, NOTHING, NUMBERS), DAWNHAWSE_WRONG_TABLE);
+    HOLD(dawnhawse_doorman(ROW, HEADER, NOTHING), DAWNHAWSE_NO_ROOM);
+    HOLD(dawnhawse_doorman(CUT_ROW, HEADER, NOTHING), DAWNHAWSE_NO_ROOM);
+    HOLD(dawnhawse_doorman(NOTHING, NOTHING, NUMBERS), DAWNHAWSE_MORE);
+    HOLD(dawnhawse_doorman(NOTHING, NOTHING, NOTHING), DAWNHAWSE_NO_ROOM);
     if (untouched != 7)
         failed++;
     printf("%d passed, %d failed\n", passed, failed);

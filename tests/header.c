@@ -1,6 +1,6 @@
 /*
- * What the C header itself says, as C99 and as C++: each answer has a name of its own, the fields of a connection fill it, those of
- * the longest stored forms sum up to their lengths, and the release is its three numbers.
+ * What the C header itself says, as C99 and as C++: each answer has a name of its own, the fields of a connection and of a table's row
+ * fill them, those of the longest stored forms sum up to their lengths, and the release is its three numbers.
  */
 #include <dawnhawse.h>
 #include <stdio.h>
@@ -21,6 +21,7 @@ static void check(int holds, const char *what)
 static int is_answer(uint32_t number)
 {
     return number <= DAWNHAWSE_WRONG_SIZE || number == DAWNHAWSE_WRONG_CHECKSUM || number == DAWNHAWSE_WRONG_STATE
+        || (number >= DAWNHAWSE_NOT_ADMITTED_VERSION && number <= DAWNHAWSE_WRONG_TABLE)
         || (number >= DAWNHAWSE_END && number <= DAWNHAWSE_MORE);
 }
 
@@ -46,6 +47,9 @@ int main(void)
               && DAWNHAWSE_DESTINATION + 108 == DAWNHAWSE_SOURCE_PORT && DAWNHAWSE_SOURCE_PORT + 2 == DAWNHAWSE_DESTINATION_PORT
               && DAWNHAWSE_DESTINATION_PORT + 2 == DAWNHAWSE_CHECKSUM && DAWNHAWSE_CHECKSUM + 1 == DAWNHAWSE_CONNECTION,
           "the fields of a connection fill it");
+    check(DAWNHAWSE_ROW_FAMILY + 1 == DAWNHAWSE_ROW_BITS && DAWNHAWSE_ROW_BITS + 1 == DAWNHAWSE_ROW_LEVEL
+              && DAWNHAWSE_ROW_LEVEL + 1 == DAWNHAWSE_ROW_ADDRESS && DAWNHAWSE_ROW_ADDRESS + 16 == DAWNHAWSE_ROW,
+          "the fields of a table's row fill it");
     check(3 + 2 + 1 + 108 + 108 == DAWNHAWSE_LONGEST_STORED && 3 + 2 + 1 + 1 + 108 + 108 == DAWNHAWSE_LONGEST_STORED_V2,
           "the fields of the longest stored forms sum up to their lengths");
     snprintf(text, sizeof text, "%d.%d.%d", DAWNHAWSE_RELEASE_MAJOR, DAWNHAWSE_RELEASE_MINOR, DAWNHAWSE_RELEASE_PATCH);

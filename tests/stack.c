@@ -8,9 +8,9 @@
 #include <ucontext.h>
 
 /* The arguments of the next call. */
-static uint8_t bytes[1024], connection[DAWNHAWSE_CONNECTION], out[1024];
+static uint8_t bytes[1024], connection[DAWNHAWSE_CONNECTION], out[1024], table[DAWNHAWSE_MOST_ROWS * DAWNHAWSE_ROW];
 static uint64_t numbers[DAWNHAWSE_NUMBERS];
-static size_t length, at, room;
+static size_t length, at, room, table_length;
 
 #define NUMBERS numbers, DAWNHAWSE_NUMBERS
 #define CONNECTION connection, sizeof connection
@@ -30,6 +30,7 @@ static void do_load_v2(void) { dawnhawse_load_v2(bytes, length, CONNECTION); }
 static void do_forward(void) { dawnhawse_forward(bytes, length, out, room, NUMBERS); }
 static void do_back(void) { dawnhawse_back(bytes, length, out, room, NUMBERS); }
 static void do_crc32c(void) { dawnhawse_crc32c(bytes, length); }
+static void do_doorman(void) { dawnhawse_doorman(table, table_length, bytes, length, NUMBERS); }
 
 /* How far down a call writes, in whole words. */
 static size_t depth(void (*call)(void))
@@ -71,6 +72,7 @@ static struct most {
     {do_forward, "dawnhawse_forward", 0},
     {do_back, "dawnhawse_back", 0},
     {do_crc32c, "dawnhawse_crc32c", 0},
+    {do_doorman, "dawnhawse_doorman", 0},
 };
 
 static void measure(void (*call)(void))
@@ -102,7 +104,7 @@ static const struct kind {
     {DAWNHAWSE_IP6_STREAM, 16, 2}, {DAWNHAWSE_IP6_DATAGRAM, 16, 2},
     {DAWNHAWSE_UNIX_STREAM, 108, 0}, {DAWNHAWSE_UNIX_DATAGRAM, 108, 0},
 };
-static const uint8_t tlvs[] = {1, 0, 2, 'h', '2', 4, 0, 0, 4, 0, 0, 0xee, 0, 1, 7};
+static const uint8_t tlvs[] = {1, 0, 2, 'h', '2', 4, 0, 0, 4, 0, 0, 5, 0, 1, 7, 0xee, 0, 1, 7};
 
 /* A connection of this kind and state whose used bytes are all this one, room for it, and TLVs where it may have some. */
 static void prepare(const struct kind *kind, uint8_t state, int byte)
@@ -132,6 +134,61 @@ static void read_back(const struct kind *kind, uint8_t state, void (*write)(void
     beginnings(call, written);
 }
 
+/* Fills the table with 64 rows, 32 of each family: ever longer prefixes of the address whose bytes are all 7. */
+static void fill_table(void)
+{
+    memset(table, 0, sizeof table);
+    table_length = sizeof table;
+    for (size_t i = 0; i < DAWNHAWSE_MOST_ROWS; i++) {
+        uint8_t *row = table + i * DAWNHAWSE_ROW;
+        size_t bits = i < 32 ? i + 1 : (i - 31) * 4;
+
+        row[DAWNHAWSE_ROW_FAMILY] = i < 32 ? 4 : 6;
+        row[DAWNHAWSE_ROW_BITS] = (uint8_t)bits;
+        row[DAWNHAWSE_ROW_LEVEL] = i % 4;
+        for (size_t bit = 0; bit < bits; bit++)
+            row[DAWNHAWSE_ROW_ADDRESS + bit / 8] |= 7 & 0x80 >> bit % 8;
+    }
+}
+
+/* Other tables: none; the last row cut; its level out of range; a bit of it set beyond the prefix; in its place the row before it. */
+static void other_tables(void)
+{
+    uint8_t *last = table + sizeof table - DAWNHAWSE_ROW;
+
+    table_length = 0;
+    measure(do_doorman);
+    table_length = sizeof table - 1;
+    measure(do_doorman);
+    table_length = sizeof table;
+    last[DAWNHAWSE_ROW_LEVEL] += 4;
+    measure(do_doorman);
+    last[DAWNHAWSE_ROW_LEVEL] -= 4;
+    last[DAWNHAWSE_ROW_BITS]--;
+    measure(do_doorman);
+    memcpy(last, last - DAWNHAWSE_ROW, DAWNHAWSE_ROW);
+    measure(do_doorman);
+}
+
+/* Headers of this kind with one byte altered, so that some do not keep the profile; then a local one of 16 + 0x209 = 537 bytes. */
+static void profile(const struct kind *kind)
+{
+    prepare(kind, DAWNHAWSE_CHECKSUM_ABSENT, 7);
+    do_write_v2();
+    length = numbers[DAWNHAWSE_WRITTEN_LENGTH];
+    memcpy(bytes, out, length);
+    for (size_t i = 0; i < length; i++) {
+        bytes[i] ^= 0x01;
+        measure(do_doorman);
+        bytes[i] ^= 0x01;
+    }
+    bytes[12] = 0x20;
+    bytes[14] = 0x02;
+    bytes[15] = 0x09;
+    length = 537;
+    measure(do_doorman);
+}
+
 int main(void)
 {
     static const char *const lines[] = {
@@ -141,11 +198,13 @@ int main(void)
         "PROXY UNKNOWN and whatever follows\r\n",
     };
 
+    fill_table();
     for (size_t i = 0; i < sizeof lines / sizeof *lines; i++) {
         memcpy(bytes, lines[i], strlen(lines[i]));
         beginnings(do_read, strlen(lines[i]));
         beginnings(do_read_checked, strlen(lines[i]));
         beginnings(do_crc32c, strlen(lines[i]));
+        beginnings(do_doorman, strlen(lines[i]));
     }
     for (const struct kind *kind = kinds; kind < kinds + sizeof kinds / sizeof *kinds; kind++) {
         for (int byte = 0; byte < 256; byte++) {
@@ -162,6 +221,8 @@ int main(void)
         }
         read_back(kind, DAWNHAWSE_CHECKSUM_ABSENT, do_write_v2, do_read);
         read_back(kind, DAWNHAWSE_CHECKSUM_ABSENT, do_write_v2, do_read_checked);
+        read_back(kind, DAWNHAWSE_CHECKSUM_ABSENT, do_write_v2, do_doorman);
+        profile(kind);
         read_back(kind, DAWNHAWSE_CHECKSUM_ABSENT, do_store, do_load);
         read_back(kind, DAWNHAWSE_CHECKSUM_ABSENT, do_store, do_forward);
         read_back(kind, DAWNHAWSE_CHECKSUM_ABSENT, do_store_v2, do_load_v2);
@@ -172,6 +233,7 @@ int main(void)
             read_back(kind, DAWNHAWSE_CHECKSUM_MATCHED, do_store_v2, do_back);
         }
     }
+    other_tables();
     memcpy(bytes, tlvs, sizeof tlvs);
     for (at = 0; at < sizeof tlvs + 2; at++) {
         beginnings(do_next, sizeof tlvs);
