@@ -1,4 +1,5 @@
-//! The headers, connections and stored forms that are taken, each with the ratio to the C code that the library is to keep to.
+//! The headers, connections and stored forms that are taken, each with the ratio to the C code that the library is to keep to, and
+//! the table of prefixes.
 
 /// What is done with the bytes.
 #[derive(Clone, Copy, PartialEq)]
@@ -12,6 +13,8 @@ pub enum Call {
     Load,
     /// A stored form of version 1 is moved to version 2.
     Forward,
+    /// A header is held to the profile, and its source gets a level by the table.
+    Admit,
 }
 
 pub struct Input {
@@ -19,6 +22,8 @@ pub struct Input {
     pub what: &'static str,
     pub call: Call,
     pub bytes: Vec<u8>,
+    /// Rows of prefixes for Admit; the others have none.
+    pub table: Vec<u8>,
     /// The bytes are judged after this many of them and after each further one; all of that counts as one header.
     pub first: usize,
     pub target: Option<f64>,
@@ -30,12 +35,14 @@ impl Input {
         (self.first..=self.bytes.len()).map(|n| &self.bytes[..n]).collect()
     }
 
-    /// The bytes with one of them changed so that they are refused: the last of a checksum, or the first of a connection or a mark.
+    /// The bytes with one of them changed so that they are refused: the last of a checksum, the first of a connection or a mark, or the
+    /// type of the unique ID.
     pub fn spoilt(&self) -> Option<Vec<u8>> {
         let place = match self.call {
             Call::Read => return None,
             Call::ReadChecked => self.bytes.len() - 1,
             Call::Store | Call::Load | Call::Forward => 0,
+            Call::Admit => self.bytes.len() - UNIQUE_ID.len() - 3,
         };
         let mut spoilt = self.bytes.clone();
         spoilt[place] ^= 1;
@@ -51,7 +58,7 @@ pub fn inputs() -> Vec<Input> {
         whole("v1-tcp4", "version 1, TCP4 (W02)", b"PROXY TCP4 192.168.0.1 192.168.0.11 56324 443\r\n".to_vec(), 0.6),
         whole("v1-tcp6", "version 1, longest TCP6", LONGEST_TCP6.to_vec(), 1.0),
         whole("v2-ip4", "version 2, IPv4", block(0x11, &[&SOURCE, &DESTINATION, &PORTS]), 2.5),
-        whole("v2-ip6-tlvs", "version 2, IPv6, three TLVs", block(0x21, &[&address6(0x34), &address6(0x35), &PORTS, &tlvs()]), 2.5),
+        whole("v2-ip6-tlvs", "version 2, IPv6, three TLVs", with_tlvs(), 2.5),
         whole("v2-unix", "version 2, UNIX", block(0x31, &[&path("/run/screen/tester.sock"), &path("/run/screen/services.sock")]), 2.5),
         Input { first: 1, ..taken("scraps", "longest TCP6, byte by byte", Call::Read, LONGEST_TCP6.to_vec()) },
         taken("v2-checked", "version 2, checked", Call::ReadChecked, with_checksum(200)),
@@ -59,6 +66,7 @@ pub fn inputs() -> Vec<Input> {
         taken("store", "IPv4, stored", Call::Store, connection()),
         taken("load", "IPv4, loaded", Call::Load, form(&[2, 0x11, 1])),
         taken("forward", "IPv4, moved forward", Call::Forward, form(&[1, 0x11])),
+        Input { table: table(), ..taken("admit", "IPv6, a table of 64 rows", Call::Admit, with_tlvs()) },
     ]
 }
 
@@ -67,7 +75,7 @@ fn whole(name: &'static str, what: &'static str, bytes: Vec<u8>, target: f64) ->
 }
 
 fn taken(name: &'static str, what: &'static str, call: Call, bytes: Vec<u8>) -> Input {
-    Input { name, what, call, first: bytes.len(), bytes, target: None }
+    Input { name, what, call, first: bytes.len(), bytes, table: Vec::new(), target: None }
 }
 
 const SOURCE: [u8; 4] = [192, 168, 0, 1];
@@ -104,10 +112,31 @@ fn path(name: &str) -> [u8; 108] {
     bytes
 }
 
+const UNIQUE_ID: &[u8] = b"0123456789abcdef";
+
 /// ALPN, AUTHORITY and UNIQUE_ID.
 fn tlvs() -> Vec<u8> {
     let tlv = |kind: u8, value: &[u8]| [&[kind, 0, value.len() as u8], value].concat();
-    [tlv(0x01, b"h2"), tlv(0x02, b"screen.example.com"), tlv(0x05, b"0123456789abcdef")].concat()
+    [tlv(0x01, b"h2"), tlv(0x02, b"screen.example.com"), tlv(0x05, UNIQUE_ID)].concat()
+}
+
+/// A version 2 header with these TLVs: IPv6.
+fn with_tlvs() -> Vec<u8> {
+    block(0x21, &[&address6(0x34), &address6(0x35), &PORTS, &tlvs()])
+}
+
+/// 64 rows, of IPv6 and IPv4 by turns, the prefixes of each family nested from short to long. Those of IPv6 are the source's up to 64
+/// bits, and then those of an address that differs from it in the next bit: the row of 64 bits decides, the 31st.
+fn table() -> Vec<u8> {
+    let source = u128::from_be_bytes(address6(0x34));
+    let beside = source ^ 1 << 63;
+    let source4 = u128::from(u32::from_be_bytes(SOURCE)) << 96;
+    let row = |family: u8, bits: u8, address: u128| {
+        let (level, prefix) = (bits % 3 + 1, address & u128::MAX << (128 - bits));
+        [&[family, bits, level][..], &prefix.to_be_bytes()].concat()
+    };
+    let pair = |n: u8| [row(6, 4 * n, if 4 * n <= 64 { source } else { beside }), row(4, n, source4)].concat();
+    (1..=32).flat_map(pair).collect()
 }
 
 /// A version 2 header of this many bytes with a checksum: IPv6, the TLVs above, NOOP to fill it, and CRC32C.

@@ -66,7 +66,7 @@ fn check(input: &Input) {
 }
 
 fn agree(input: &Input, bytes: &[u8], expected: impl Fn(&Answer) -> bool) {
-    let [library, c, second] = Program::ALL.map(|program| program.answer(input.call, bytes));
+    let [library, c, second] = Program::ALL.map(|program| program.answer(input, bytes));
     if !expected(&library) || library != c || library != second {
         let hex: String = bytes.iter().map(|b| format!("{b:02x}")).collect();
         eprintln!("bench: {}: input {hex} ({} bytes): the library says {library:?}, the C code {c:?}, the second program {second:?}", input.what, bytes.len());

@@ -1,7 +1,7 @@
 //! The three programs under one roof: the proved library through its C interface, the C code, and the second program.
 use crate::inputs::{Call, Input};
 use compare::connection::{self, SIZE as CONNECTION};
-use second::{StoredVersion, Verdict};
+use second::{Admission, StoredVersion, Verdict};
 use std::hint::black_box;
 
 extern "C" {
@@ -11,6 +11,7 @@ extern "C" {
     fn dawnhawse_store_v2(connection: *const u8, connection_len: usize, out: *mut u8, out_len: usize, numbers: *mut u64, numbers_len: usize) -> u32;
     fn dawnhawse_load_v2(stored: *const u8, stored_len: usize, connection: *mut u8, connection_len: usize) -> u32;
     fn dawnhawse_forward(stored: *const u8, stored_len: usize, out: *mut u8, out_len: usize, numbers: *mut u64, numbers_len: usize) -> u32;
+    fn dawnhawse_doorman(table: *const u8, table_len: usize, bytes: *const u8, bytes_len: usize, numbers: *mut u64, numbers_len: usize) -> u32;
     /// parser.h
     fn parser_read(bytes: *const u8, n: usize, header: *mut Told) -> u32;
     fn parser_read_checked(bytes: *const u8, n: usize, header: *mut Told) -> u32;
@@ -18,10 +19,13 @@ extern "C" {
     fn stored_write(connection: *const u8, out: *mut u8, room: usize, length: *mut u64) -> u32;
     fn stored_load(form: *const u8, n: usize, connection: *mut u8) -> u32;
     fn stored_forward(form: *const u8, n: usize, out: *mut u8, room: usize, length: *mut u64) -> u32;
+    /// admit.h
+    fn admit(table: *const u8, size: usize, bytes: *const u8, n: usize, caller: *mut [u64; 4]) -> u32;
 }
 
 /// What a program tells of an accepted header: length, version, the TLV area's start and length, and the connection. The C parser's
-/// header is laid out so. Of a stored form: its length where one is written, and its bytes or the connection that it holds.
+/// header is laid out so. Of a stored form: its length where one is written, and its bytes or the connection that it holds. Of an
+/// admitted header: level, length, the unique ID's start and length, as admit.h lays them out.
 #[repr(C)]
 #[derive(Debug, PartialEq)]
 pub struct Told {
@@ -57,12 +61,12 @@ impl Program {
     }
 
     /// What the program says of the bytes.
-    pub fn answer(self, call: Call, bytes: &[u8]) -> Answer {
+    pub fn answer(self, Input { call, table, .. }: &Input, bytes: &[u8]) -> Answer {
         let mut told = Told::new();
         let number = match self {
-            Program::Library => library(call, bytes, &mut told),
-            Program::C => c(call, bytes, &mut told),
-            Program::Second => second(call, bytes, &mut told),
+            Program::Library => library(*call, table, bytes, &mut told),
+            Program::C => c(*call, table, bytes, &mut told),
+            Program::Second => second(*call, table, bytes, &mut told),
         };
         match (self, number) {
             (_, 0) => Answer::Accepted(Box::new(told)),
@@ -79,26 +83,28 @@ impl Program {
             Call::Store => self.repeat(Call::Store, input, count),
             Call::Load => self.repeat(Call::Load, input, count),
             Call::Forward => self.repeat(Call::Forward, input, count),
+            Call::Admit => self.repeat(Call::Admit, input, count),
         }
     }
 
     #[inline(always)]
     fn repeat(self, call: Call, input: &Input, count: u64) {
-        let mut told = Told::new();
         match self {
-            Program::Library => each(input, count, |bytes| library(call, bytes, black_box(&mut told))),
-            Program::C => each(input, count, |bytes| c(call, bytes, black_box(&mut told))),
-            Program::Second => each(input, count, |bytes| second(call, bytes, black_box(&mut told))),
+            Program::Library => each(library, call, input, count),
+            Program::C => each(c, call, input, count),
+            Program::Second => each(second, call, input, count),
         }
     }
 }
 
+/// The function is one of those below, and not a closure around it, so that it is put into the loop.
 #[inline(always)]
-fn each(input: &Input, count: u64, mut take: impl FnMut(&[u8]) -> u32) {
+fn each(take: impl Fn(Call, &[u8], &[u8], &mut Told) -> u32, call: Call, input: &Input, count: u64) {
+    let mut told = Told::new();
     let readings = input.readings();
     for _ in 0..count {
         for bytes in &readings {
-            black_box(take(black_box(bytes)));
+            black_box(take(call, &input.table, black_box(bytes), black_box(&mut told)));
         }
     }
 }
@@ -110,7 +116,7 @@ impl Told {
 }
 
 #[inline(always)]
-fn library(call: Call, input: &[u8], Told { numbers, bytes }: &mut Told) -> u32 {
+fn library(call: Call, table: &[u8], input: &[u8], Told { numbers, bytes }: &mut Told) -> u32 {
     let (from, length) = (input.as_ptr(), input.len());
     let (numbers, told) = (numbers.as_mut_ptr(), numbers.len());
     let (bytes, room) = (bytes.as_mut_ptr(), bytes.len());
@@ -122,15 +128,17 @@ fn library(call: Call, input: &[u8], Told { numbers, bytes }: &mut Told) -> u32 
             Call::Store => dawnhawse_store_v2(from, length, bytes, room, numbers, told),
             Call::Load => dawnhawse_load_v2(from, length, bytes, room),
             Call::Forward => dawnhawse_forward(from, length, bytes, room, numbers, told),
+            Call::Admit => dawnhawse_doorman(table.as_ptr(), table.len(), from, length, numbers, told),
         }
     }
 }
 
 #[inline(always)]
-fn c(call: Call, input: &[u8], told: &mut Told) -> u32 {
+fn c(call: Call, table: &[u8], input: &[u8], told: &mut Told) -> u32 {
     let (from, length) = (input.as_ptr(), input.len());
     let (bytes, room) = (told.bytes.as_mut_ptr(), told.bytes.len());
-    // SAFETY: the input is valid for its length, and a connection where one is stored; what is told has the layout of the parser's header.
+    // SAFETY: table and input are valid for their lengths, and the input is a connection where one is stored; what is told has the layout
+    // of the parser's header, and its numbers that of an admitted caller.
     unsafe {
         match call {
             Call::Read => parser_read(from, length, told),
@@ -138,16 +146,18 @@ fn c(call: Call, input: &[u8], told: &mut Told) -> u32 {
             Call::Store => stored_write(from, bytes, room, &mut told.numbers[0]),
             Call::Load => stored_load(from, length, bytes),
             Call::Forward => stored_forward(from, length, bytes, room, &mut told.numbers[0]),
+            Call::Admit => admit(table.as_ptr(), table.len(), from, length, &mut told.numbers),
         }
     }
 }
 
 /// The library's numbers: 0, 255 for more, and others.
 #[inline(always)]
-fn second(call: Call, input: &[u8], Told { numbers, bytes }: &mut Told) -> u32 {
+fn second(call: Call, table: &[u8], input: &[u8], Told { numbers, bytes }: &mut Told) -> u32 {
     let written = match call {
         Call::Read => return verdict(&second::judge(input), numbers, bytes),
         Call::ReadChecked => return second::judge_checked(input).map_or_else(u32::from, |read| verdict(&read, numbers, bytes)),
+        Call::Admit => return admission(&second::admit(table, input), numbers),
         Call::Load => second::load(StoredVersion::Two, input).map_err(u32::from).map(|record| {
             *bytes = connection::bytes(&record);
             0
@@ -174,5 +184,16 @@ fn verdict(verdict: &Verdict, numbers: &mut [u64; 4], bytes: &mut [u8; CONNECTIO
         }
         Verdict::More(_) => 255,
         Verdict::Refused { number, .. } => u32::from(*number),
+    }
+}
+
+fn admission(admission: &Admission, numbers: &mut [u64; 4]) -> u32 {
+    match admission {
+        Admission::Admitted { level, length, unique_id } => {
+            *numbers = [u64::from(*level), *length as u64, unique_id.start as u64, unique_id.len() as u64];
+            0
+        }
+        Admission::More(_) => 255,
+        Admission::Refused { number, .. } | Admission::NotAdmitted { number } => u32::from(*number),
     }
 }
