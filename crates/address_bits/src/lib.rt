@@ -35,8 +35,8 @@ pub fn clear_bits(address: &[u8], bits: u8) -> bool
         return true;
     }
     let whole = (bits / 8) as usize;
-    let rest = 8 - bits % 8;
-    if (byte_at(address, whole) as u16) % (1 << rest) != 0 {
+    let behind = 8 - bits % 8;
+    if (byte_at(address, whole) as u16) % (1 << behind) != 0 {
         return false;
     }
     let mut i = whole + 1;

@@ -4,7 +4,6 @@ use mathlib.Core.Path.{_≡_, refl, sym, ap, _∙_, subst}
 use mathlib.Core.Bool.{Bool, true, false}
 use mathlib.Core.List.{List, [], _∷_, _++_, List·Memᴰ, List·Permᴰ, Permᴰ·symm}
 use mathlib.Core.Logic.{_↔_, _⊎_, inl, inr, ⊎-elim}
-use mathlib.Core.Option.{Option, some, none}
 use Prim.Native.Nat.{ℕ}
 use native.Mathlib.Omega.{arith}
 use lib.Dec.{eqb, leb}
@@ -22,8 +21,8 @@ use Rattle.prefix_table.specs.Table.{rowsOf, GoodRows, Good}
 use Rattle.prefix_table.specs.TableTests.{goodTable}
 use Rattle.prefix_table.specs.TableLaws.{table-tested}
 use Rattle.prefix_table.specs.Levels.{level-decides, decides-one, perm-good, perm-level, one-more-row, level-from}
-use Rattle.unique_id.specs.UniqueId.{Value, idIn}
-use Rattle.admission.specs.Profile.{Admission, admitted, more, refused, denied, byId, ifShort, byKind, profile}
+use Rattle.unique_id.specs.UniqueId.{identified}
+use Rattle.admission.specs.Profile.{Admission, admitted, more, refused, denied, ifShort, stream, byKind, profile}
 use Rattle.admission.specs.Admits.{SourceLevel, Admits, bad-table, unfinished, no-header, header, sourceLevel, admissionBy, admission}
 
 -- ── one answer is claimed ──
@@ -42,13 +41,13 @@ module _ (rows : List Prefix) (source : List ℕ) where
   source-one good (Ip6 t) l d = decides-one 6 source rows good l d
   source-one good (Unix t) l d = d
 
--- of a good table, and of another
-pub by-good : (table s : List ℕ) → Good table → admission table s ≡ admissionBy (rowsOf table) (verdict s)
-by-good table s good = rw (table-tested table .1 good)
-
+-- of a table that is not good, and of a good one
 pub by-bad : (table s : List ℕ) → (Good table → ⊥) → admission table s ≡ denied 34
 by-bad table s bad =
     pick-by (λ (a : Admission). a ≡ denied 34) (goodTable table) (λ e. absurd (bad (table-tested table .0 e))) (λ e. refl)
+
+pub by-good : (table s : List ℕ) → Good table → admission table s ≡ admissionBy (rowsOf table) (verdict s)
+by-good table s good = rw (table-tested table .1 good)
 
 pub admits : (table s : List ℕ) → Admits table s (admission table s)
 admits table s =
@@ -175,19 +174,18 @@ profile-level : (h : Header) (n level : ℕ) → Given level (profile h n level)
 profile-level h n level =
     pick-by (Given level) (eqb (h .version) 2) (λ e. by-kind (h .«record» .kind)) (λ e. inl refl)
   where
-    by-id : (v : Option Value) → Given level (byId v (length (h .area)) n level)
-    by-id (some v) = inr refl
-    by-id none = inl refl
-
     short : (a : Admission) → Given level a → Given level (ifShort n a)
     short a g = pick-by (Given level) (leb n 536) (λ e. g) (λ e. inl refl)
+
+    of-stream : Given level (stream (h .area) n level)
+    of-stream = short _ (pick-by (Given level) (identified (h .area)) (λ e. inr refl) (λ e. inl refl))
 
     by-kind : (k : Kind) → Given level (byKind k (h .area) n level)
     by-kind Local = short (admitted 0 n 0 0) (inl refl)
     by-kind Unspecified = inl refl
-    by-kind (Ip4 Stream) = short _ (by-id (idIn (h .area)))
+    by-kind (Ip4 Stream) = of-stream
     by-kind (Ip4 Datagram) = inl refl
-    by-kind (Ip6 Stream) = short _ (by-id (idIn (h .area)))
+    by-kind (Ip6 Stream) = of-stream
     by-kind (Ip6 Datagram) = inl refl
     by-kind (Unix t) = inl refl
 

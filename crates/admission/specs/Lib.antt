@@ -2,3 +2,4 @@ pub mod Profile
 pub mod Admits
 pub mod Answers
 pub mod Demand
+pub mod Callers

@@ -16,7 +16,7 @@ ghost use mathlib.Core.Path.{_≡_};
 ghost use lib.ListN.{length, drop};
 ghost use Rattle.prefix_table.specs.Table.{rowsOf};
 ghost use Rattle.prefix_table.specs.TableTests.{levelIn};
-ghost use Rattle.admission.specs.Profile.{stream, ifShort, byVersion};
+ghost use Rattle.admission.specs.Profile.{stream, byVersion};
 ghost use Rattle.admission.specs.Admits.{sourceLevel, Admits, admission};
 ghost use Rattle.admission.specs.Answers.{denialNumber, toldAnswer};
 
@@ -65,7 +65,7 @@ pub fn denial_number(denial: Denial) -> u8
 
 // The answer to a stream caller by the header, whose TLV area starts at this place.
 fn admit_stream(table: &[u8], family: u8, source: &[u8], header: &[u8], at: usize) -> Answer
-    ensures { λ r. ⌜ toldAnswer r ≡ ifShort (length (now (header .entry))) (stream (drop at (now (header .entry))) (length (now (header .entry))) (levelIn (rowsOf (now (table .entry))) family (now (source .entry)))) ⌝ }
+    ensures { λ r. ⌜ toldAnswer r ≡ stream (drop at (now (header .entry))) (length (now (header .entry))) (levelIn (rowsOf (now (table .entry))) family (now (source .entry))) ⌝ }
 {
     if 536 < header.len() {
         return Answer::Denied(Denial::Length);

@@ -2,22 +2,21 @@
 use mathlib.Core.Path.{_≡_, refl, sym, ap, ap₂, _∙_}
 use mathlib.Core.Bool.{Bool, true, false, _&&_}
 use mathlib.Core.List.{List, [], _∷_, _++_}
-use mathlib.Core.Option.{Option, some, none}
 use Prim.Native.Nat.{ℕ, zero, suc, _+_, _≤_, _<_}
 use native.Mathlib.Omega.{arith}
 use borrow.Author.Tests.{eqb-true}
 use lib.Dec.{eqb, leb}
 use lib.ListN.{length, take, drop, length-append}
 use lib.Seq.{take-at}
-use Rattle.exact.specs.Pick.{pick, both, never}
-use Rattle.tlv.specs.Tlv.{Tlv, written, Area, WellFormed}
+use Rattle.exact.specs.Pick.{pick, both}
+use Rattle.tlv.specs.Tlv.{Tlv, written, Area}
 use Rattle.tlv.specs.Laws.{written-append}
 use Rattle.tlv.specs.Test.{wellFormed, well-formed-tested}
 use Rattle.tlv.specs.Listed.{tlvsOf, tlvs-of}
 use Rattle.lookup.specs.Lookup.{firstOf, startOf, lengthOf}
 use Rattle.lookup.specs.Laws.{found-there}
 use Rattle.tlv_count.specs.Count.{countOf}
-use Rattle.unique_id.specs.UniqueId.{Value, firstValue, hasId, uniqueId, idIn}
+use Rattle.unique_id.specs.UniqueId.{firstValue, hasId, identified, idOf}
 
 -- a list by its first TLV of a type
 pub record FirstIn (type : ℕ) (tlvs : List Tlv) : Type 0 where
@@ -90,25 +89,10 @@ module _ (tlvs : List Tlv) (has : hasId tlvs ≡ true) where
       omega arith
 
 -- in its area
-pub id-inside : (area : List ℕ) (v : Value) → idIn area ≡ some v → v .start + v .size ≤ length area
-id-inside area v e = by (wellFormed area) refl e
-  where
-    no-value : {A : Type 0} → none ≡ some v → A
-    no-value e = let z : _≡_ {A = ℕ} 0 1 = cc in absurd (omega arith)
-
-    of-tlvs : (tlvs : List Tlv) → area ≡ written tlvs → (b : Bool) → hasId tlvs ≡ b → pick b (some (firstValue tlvs)) none ≡ some v → v .start + v .size ≤ length area
-    of-tlvs tlvs a true has e =
-        let is : firstValue tlvs ≡ v = cc in
-        let start = ap (λ (x : Value). x .start) is in
-        let size = ap (λ (x : Value). x .size) is in
-        let h = id-ends tlvs has in
-        let n = ap length a in
-        omega arith
-    of-tlvs tlvs a false has e = no-value e
-
-    by : (b : Bool) → wellFormed area ≡ b → pick b (uniqueId (tlvsOf area)) none ≡ some v → v .start + v .size ≤ length area
-    by true w e =
-        let f = well-formed-tested area .0 w in
-        let same = tlvs-of area (f .0) (f .1) in
-        of-tlvs (tlvsOf area) (f .1 .0 ∙ ap written (sym same)) (hasId (tlvsOf area)) refl e
-    by false w e = no-value e
+pub id-inside : (area : List ℕ) → identified area ≡ true → idOf area .start + idOf area .size ≤ length area
+id-inside area e =
+    let t = both (wellFormed area) (hasId (tlvsOf area)) e in
+    let f = well-formed-tested area .0 (t .0) in
+    let n = ap length (f .1 .0 ∙ ap written (sym (tlvs-of area (f .0) (f .1)))) in
+    let h = id-ends (tlvsOf area) (t .1) in
+    omega arith

@@ -26,12 +26,15 @@ firstValue tlvs = record { start = startOf (firstOf 0x05 tlvs) tlvs; size = leng
 abbrev pub hasId : List Tlv → Bool
 hasId tlvs = eqb (countOf 0x05 tlvs) 1 && (leb 1 (firstValue tlvs .size) && leb (firstValue tlvs .size) 128)
 
-abbrev pub uniqueId : List Tlv → Option Value
-uniqueId tlvs = pick (hasId tlvs) (some (firstValue tlvs)) none
+-- the same of an area; one that TLVs do not fill has none
+abbrev pub identified : List ℕ → Bool
+identified area = wellFormed area && hasId (tlvsOf area)
 
--- the unique ID of an area; none where TLVs do not fill it
+abbrev pub idOf : List ℕ → Value
+idOf area = firstValue (tlvsOf area)
+
 abbrev pub idIn : List ℕ → Option Value
-idIn area = pick (wellFormed area) (uniqueId (tlvsOf area)) none
+idIn area = pick (identified area) (some (idOf area)) none
 
 abbrev pub toldId : UniqueId → Option Value
 toldId (ValueAt start size) = some (record { start = start; size = size })

@@ -18,11 +18,11 @@ use Rattle.address_bits.proofs.clear_bits.Statement.{statement}
 use Rattle.address_bits.proofs.clear_bits.Tie as tie
 
 abbrev Inv-loop : tie.InvT-loop
-Inv-loop address bits whole rest i₀ i =
+Inv-loop address bits whole behind i₀ i =
     (getD address whole 0 % 2 ^ (8 - bits % 8) ≡ 0) × (whole < i) × ((j : ℕ) → whole < j → j < i → getD address j 0 ≡ 0)
 
 abbrev μ-loop : tie.MeasureT-loop
-μ-loop address bits whole rest i₀ i = 16 - i
+μ-loop address bits whole behind i₀ i = 16 - i
 
 -- a power of two in sixteen bits
 unit : (k : ℕ) → k ≤ 8 → 1 * 2 ^ k % 65536 ≡ 2 ^ k

@@ -1,17 +1,19 @@
 -- The length, then the unique ID, whose place in the header is behind what the area leaves of it.
 use mathlib.Core.Path.{_≡_, refl, sym, ap, ap₂, _∙_}
+use mathlib.Core.Bool.{Bool, true, false}
 use mathlib.Core.List.{List}
-use mathlib.Core.Option.{Option, some, none}
+use mathlib.Core.Option.{some, none}
 use Prim.Native.Nat.{ℕ, _+_, _-_, _≤_}
 use native.Mathlib.Omega.{arith}
 use borrow.Author.Needs.{needs}
 use borrow.Author.Tests.{le-leb, lt-leb}
 use denote.Ref.{now}
 use lib.ListN.{length, drop, length-drop}
+use Rattle.exact.specs.Pick.{pick}
 use Rattle.unique_id.specs.declared.UniqueId.{UniqueId}
-use Rattle.unique_id.specs.UniqueId.{Value, idIn, toldId}
+use Rattle.unique_id.specs.UniqueId.{Value, identified, idOf, idIn, toldId}
 use Rattle.unique_id.specs.IdLaws.{id-inside}
-use Rattle.admission.specs.Profile.{admitted, byId, stream, ifShort}
+use Rattle.admission.specs.Profile.{admitted, denied, stream}
 use Rattle.admission.proofs.admit_stream.Statement.{statement}
 use Rattle.admission.proofs.admit_stream.Tie as tie
 
@@ -40,11 +42,21 @@ module _ (c : tie.After-unique-id) where
   id-is x e = ap toldId (sym e) ∙ c .unique-id .ensures ∙ ap idIn area-is
 
   -- of a header that is short enough
-  short : (id : Option Value) (level : ℕ) → id ≡ idIn area
-      → byId id (length area) (length header) level ≡ ifShort (length header) (stream area (length header) level)
-  short id level e = rw (le-leb (length header) 536 (let h = c .before .before .if1 .left in omega arith)) (ap (λ (x : Option Value). byId x (length area) (length header) level) e)
+  short : (b : Bool) (level : ℕ) → identified area ≡ b
+      → pick b (admitted level (length header) (length header - length area + idOf area .start) (idOf area .size)) (denied 33) ≡ stream area (length header) level
+  short b level e =
+      rw (le-leb (length header) 536 (let h = c .before .before .if1 .left in omega arith))
+      (ap (λ (t : Bool). pick t (admitted level (length header) (length header - length area + idOf area .start) (idOf area .size)) (denied 33)) (sym e))
 
--- the value at a place of the area
+-- a value that is told is the one that is there
+some-value : (b : Bool) (v w : Value) → some v ≡ pick b (some w) none → (b ≡ true) × (v ≡ w)
+some-value true v w e = (refl, cc)
+some-value false v w e = let z : _≡_ {A = ℕ} 0 1 = cc in absurd (omega arith)
+
+no-value : (b : Bool) (w : Value) → none ≡ pick b (some w) none → b ≡ false
+no-value true w e = let z : _≡_ {A = ℕ} 0 1 = cc in absurd (omega arith)
+no-value false w e = refl
+
 module _ (c : tie.After-start) where
   abbrev d : tie.After-unique-id
   d = c .before .before
@@ -52,11 +64,15 @@ module _ (c : tie.After-start) where
   abbrev value : Value
   value = record { start = c .start .given .0 .0; size = c .start .given .0 .1 .0 }
 
-  value-is : some value ≡ idIn (area d)
-  value-is = id-is d _ (c .start .given .1)
+  is : (identified (area d) ≡ true) × (value ≡ idOf (area d))
+  is = some-value (identified (area d)) value (idOf (area d)) (id-is d _ (c .start .given .1))
 
   within : value .start + value .size ≤ length (area d)
-  within = id-inside (area d) value (sym value-is)
+  within =
+      let h = id-inside (area d) (is .0) in
+      let start = ap (λ (v : Value). v .start) (is .1) in
+      let size = ap (λ (v : Value). v .size) (is .1) in
+      omega arith
 
 sub-start : tie.Need-sub-t18
 sub-start c =
@@ -75,13 +91,17 @@ add-start c =
 
 returns-2 : tie.Need-returns-2
 returns-2 c =
-    let e = d (c .before .before) in
-    let v = value (c .before .before) in
-    ap₂ (λ (n level : ℕ). admitted level (length (header e)) (length (header e) - n + v .start) (v .size)) (size e) (c .level-of .ensures)
-    ∙ short e (some v) _ (value-is (c .before .before))
+    let k = c .before .before in
+    let e = d k in
+    let n = length (header e) in
+    ap₂ (λ (m : ℕ) (v : Value). admitted (c .level-of .result) n (n - m + v .start) (v .size)) (size e) (is k .1)
+    ∙ short e true (c .level-of .result) (is k .0)
+    ∙ ap (stream (area e) n) (c .level-of .ensures)
 
 returns-3 : tie.Need-returns-3
-returns-3 c = let e = c .before .before in short e none _ (id-is e _ (c .enum-told .given .1))
+returns-3 c =
+    let e = c .before .before in
+    short e false _ (no-value (identified (area e)) (idOf (area e)) (id-is e _ (c .enum-told .given .1)))
 
 pub admit-stream-spec : {M : Type 1} → statement M
 admit-stream-spec =

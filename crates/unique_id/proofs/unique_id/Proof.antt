@@ -12,31 +12,31 @@ use lib.Dec.{eqb, leb}
 use lib.ListN.{length}
 use Rattle.exact.specs.Pick.{pick}
 use Rattle.tlv.specs.Tlv.{Tlv, Area, WellFormed}
-use Rattle.tlv.specs.Test.{wellFormed, well-formed-tested}
+use Rattle.tlv.specs.Test.{wellFormed, well-formed-tested, ill-formed-tested}
 use Rattle.tlv.specs.Listed.{tlvsOf, tlvs-of, few}
 use Rattle.lookup.specs.declared.Examined.{Examined}
 use Rattle.lookup.specs.Lookup.{Lookup, foundAt, toldLookup, firstOf, startOf, lengthOf, lookupIn, LooksUp}
 use Rattle.tlv_count.specs.declared.Count.{Count}
 use Rattle.tlv_count.specs.declared.Count.the-variants.{Tlvs, IllFormed}
 use Rattle.tlv_count.specs.Count.{countOf, Counts}
-use Rattle.unique_id.specs.UniqueId.{Value, firstValue, hasId, uniqueId, idIn}
+use Rattle.unique_id.specs.UniqueId.{Value, firstValue, hasId, idOf, idIn}
 use Rattle.unique_id.specs.IdLaws.{first-in, first-below}
 use Rattle.unique_id.proofs.unique_id.Statement.{statement}
 use Rattle.unique_id.proofs.unique_id.Tie as tie
 
 module _ (area : List ℕ) where
-  -- an area that TLVs fill, by its TLV list
-  filled : (w : WellFormed area) → uniqueId (w .0) ≡ idIn area
+  -- by a TLV list
+  abbrev listed : List Tlv → Option Value
+  listed tlvs = pick (hasId tlvs) (some (firstValue tlvs)) none
+
+  -- an area that TLVs fill, by its own
+  filled : (w : WellFormed area) → listed (w .0) ≡ idIn area
   filled w =
-      ap uniqueId (sym (tlvs-of area (w .0) (w .1)))
-      ∙ ap (λ (b : Bool). pick b (uniqueId (tlvsOf area)) none) (sym (well-formed-tested area .1 w))
+      ap listed (sym (tlvs-of area (w .0) (w .1)))
+      ∙ ap (λ (b : Bool). pick (b && hasId (tlvsOf area)) (some (idOf area)) none) (sym (well-formed-tested area .1 w))
 
   ill-formed : (WellFormed area → ⊥) → none ≡ idIn area
-  ill-formed not = by (wellFormed area) refl
-    where
-      by : (b : Bool) → wellFormed area ≡ b → none ≡ pick b (uniqueId (tlvsOf area)) none
-      by true e = absurd (not (well-formed-tested area .0 e))
-      by false e = refl
+  ill-formed not = ap (λ (b : Bool). pick (b && hasId (tlvsOf area)) (some (idOf area)) none) (sym (ill-formed-tested area not))
 
   -- what is counted
   counted-here : (x : Count) → Counts area 0x05 x → (n : ℕ) → x ≡ Tlvs n → (w : WellFormed area) × (countOf 0x05 (w .0) ≡ n)
