@@ -11,9 +11,6 @@ use lib.Seq.{length-take-le, getD-take, getD-drop, drop-drop, ext-getD}
 use Rattle.exact.specs.Claim as Claim
 use Rattle.exact.specs.Pick.{pick, pick-by}
 use Rattle.tlv.specs.Tlv.{Tlv, Area}
-use Rattle.record.specs.declared.Transport.the-variants.{Stream, Datagram}
-use Rattle.record.specs.declared.Kind.{Kind}
-use Rattle.record.specs.declared.Kind.the-variants.{Local, Unspecified, Ip4, Ip6, Unix}
 use Rattle.header.specs.Header.{Header}
 use Rattle.header.specs.Demand.{Judges}
 use Rattle.fields.specs.Exactness.{verdict, judges, judges-within}
@@ -22,8 +19,8 @@ use Rattle.prefix_table.specs.Table.{rowsOf}
 use Rattle.prefix_table.specs.TableTests.{goodTable}
 use Rattle.unique_id.specs.UniqueId.{Value, firstValue, hasId, identified}
 use Rattle.unique_id.specs.IdLaws.{the-id, id-there, id-ends}
-use Rattle.admission.specs.Profile.{Admission, admitted, more, refused, denied, ifShort, stream, byKind, profile}
-use Rattle.admission.specs.Admits.{sourceLevel, admissionBy, admission}
+use Rattle.profile.specs.Profile.{Admission, admitted, more, refused, denied, Origin, local, stream, other, originOf, ifShort, byOrigin, profile, sourceLevel}
+use Rattle.admission.specs.Admits.{admissionBy, admission}
 
 -- ── ""More" stays exact for the plain reader only": what a caller who waits may go by ──
 -- who is admitted has a header of at most 536 bytes
@@ -34,22 +31,15 @@ Fits n (refused k p) = Unit {0}
 Fits n (denied k) = Unit {0}
 
 profile-fits : (h : Header) (n level : ℕ) → Fits n (profile h n level)
-profile-fits h n level = pick-by (Fits n) (eqb (h .version) 2) (λ e. by-kind (h .«record» .kind)) (λ e. tt)
+profile-fits h n level = pick-by (Fits n) (eqb (h .version) 2) (λ e. by-origin (originOf (h .«record» .kind))) (λ e. tt)
   where
     short : (a : Admission) → (n ≤ 536 → Fits n a) → Fits n (ifShort n a)
     short a f = pick-by (Fits n) (leb n 536) (λ e. f (leb-true n 536 e)) (λ e. tt)
 
-    of-stream : Fits n (stream (h .area) n level)
-    of-stream = short _ (λ l. pick-by (Fits n) (identified (h .area)) (λ e. l) (λ e. tt))
-
-    by-kind : (k : Kind) → Fits n (byKind k (h .area) n level)
-    by-kind Local = short (admitted 0 n 0 0) (λ l. l)
-    by-kind Unspecified = tt
-    by-kind (Ip4 Stream) = of-stream
-    by-kind (Ip4 Datagram) = tt
-    by-kind (Ip6 Stream) = of-stream
-    by-kind (Ip6 Datagram) = tt
-    by-kind (Unix t) = tt
+    by-origin : (o : Origin) → Fits n (byOrigin o (h .area) n level)
+    by-origin local = short (admitted 0 n 0 0) (λ l. l)
+    by-origin (stream family) = short _ (λ l. pick-by (Fits n) (identified (h .area)) (λ e. l) (λ e. tt))
+    by-origin other = tt
 
 -- where the bytes so far and what "more" asks for are together over 536, no continuation is admitted
 pub too-long : (table s t : List ℕ) (n : ℕ) → Judges (Claim.more n) s → 536 < length s + n
@@ -63,7 +53,7 @@ too-long table s t n j long level m start size e = by (goodTable table) (verdict
     by false v j′ is = never-admitted tt is
     by true (Claim.accepted h k) j′ is =
         let within = judges-within s t n k h j j′ in
-        let fits = subst (Fits k) is (profile-fits h k (sourceLevel (rowsOf table) (h .«record» .kind) (h .«record» .source))) in
+        let fits = subst (Fits k) is (profile-fits h k (sourceLevel (rowsOf table) (originOf (h .«record» .kind)) (h .«record» .source))) in
         omega arith
     by true (Claim.more k) j′ is = never-admitted tt is
     by true (Claim.refused k p) j′ is = never-admitted tt is

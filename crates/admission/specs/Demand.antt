@@ -10,9 +10,6 @@ use lib.Dec.{eqb, leb}
 use lib.ListN.{length}
 use Rattle.exact.specs.Claim as Claim
 use Rattle.exact.specs.Pick.{pick, pick-by, never}
-use Rattle.record.specs.declared.Transport.the-variants.{Stream, Datagram}
-use Rattle.record.specs.declared.Kind.{Kind}
-use Rattle.record.specs.declared.Kind.the-variants.{Local, Unspecified, Ip4, Ip6, Unix}
 use Rattle.header.specs.Header.{Header}
 use Rattle.header.specs.Demand.{Judges}
 use Rattle.fields.specs.Exactness.{verdict, judges, judges-only, judges-stays}
@@ -22,24 +19,20 @@ use Rattle.prefix_table.specs.TableTests.{goodTable}
 use Rattle.prefix_table.specs.TableLaws.{table-tested}
 use Rattle.prefix_table.specs.Levels.{level-decides, decides-one, perm-good, perm-level, one-more-row, level-from}
 use Rattle.unique_id.specs.UniqueId.{identified}
-use Rattle.admission.specs.Profile.{Admission, admitted, more, refused, denied, ifShort, stream, byKind, profile}
-use Rattle.admission.specs.Admits.{SourceLevel, Admits, bad-table, unfinished, no-header, header, sourceLevel, admissionBy, admission}
+use Rattle.profile.specs.Profile.{Admission, admitted, more, refused, denied, Origin, local, stream, other, originOf, ifShort, byOrigin, profile, SourceLevel, sourceLevel}
+use Rattle.admission.specs.Admits.{Admits, bad-table, unfinished, no-header, header, admissionBy, admission}
 
 -- ── one answer is claimed ──
 module _ (rows : List Prefix) (source : List ℕ) where
-  source-decides : (k : Kind) → SourceLevel rows k source (sourceLevel rows k source)
-  source-decides Local = refl
-  source-decides Unspecified = refl
-  source-decides (Ip4 t) = level-decides 4 source rows
-  source-decides (Ip6 t) = level-decides 6 source rows
-  source-decides (Unix t) = refl
+  source-decides : (o : Origin) → SourceLevel rows o source (sourceLevel rows o source)
+  source-decides local = refl
+  source-decides (stream family) = level-decides family source rows
+  source-decides other = refl
 
-  source-one : GoodRows rows → (k : Kind) (l : ℕ) → SourceLevel rows k source l → l ≡ sourceLevel rows k source
-  source-one good Local l d = d
-  source-one good Unspecified l d = d
-  source-one good (Ip4 t) l d = decides-one 4 source rows good l d
-  source-one good (Ip6 t) l d = decides-one 6 source rows good l d
-  source-one good (Unix t) l d = d
+  source-one : GoodRows rows → (o : Origin) (l : ℕ) → SourceLevel rows o source l → l ≡ sourceLevel rows o source
+  source-one good local l d = d
+  source-one good (stream family) l d = decides-one family source rows good l d
+  source-one good other l d = d
 
 -- of a table that is not good, and of a good one
 pub by-bad : (table s : List ℕ) → (Good table → ⊥) → admission table s ≡ denied 34
@@ -55,7 +48,7 @@ admits table s =
     (λ e. bad-table (λ good. never (sym e ∙ table-tested table .1 good)))
   where
     by : Good table → (v : Claim.Verdict Header) → Judges v s → Admits table s (admissionBy (rowsOf table) v)
-    by good (Claim.accepted h n) j = header h n _ good j (source-decides (rowsOf table) (h .«record» .source) (h .«record» .kind))
+    by good (Claim.accepted h n) j = header h n _ good j (source-decides (rowsOf table) (h .«record» .source) (originOf (h .«record» .kind)))
     by good (Claim.more n) j = unfinished n good j
     by good (Claim.refused k p) j = no-header k p good j
 
@@ -66,7 +59,7 @@ admits-only table s _ (unfinished n good j) =
 admits-only table s _ (no-header k p good j) =
     ap (admissionBy (rowsOf table)) (judges-only (Claim.refused k p) s j) ∙ sym (by-good table s good)
 admits-only table s _ (header h n level good j d) =
-    ap (profile h n) (source-one (rowsOf table) (h .«record» .source) (good .rows) (h .«record» .kind) level d)
+    ap (profile h n) (source-one (rowsOf table) (h .«record» .source) (good .rows) (originOf (h .«record» .kind)) level d)
     ∙ ap (admissionBy (rowsOf table)) (judges-only (Claim.accepted h n) s j)
     ∙ sym (by-good table s good)
 
@@ -87,55 +80,49 @@ admission-stays table s t decided = by (goodTable table) refl
     by false e = rw e
 
 -- ── "the order of the rows does not matter" ──
-module _ (one other : List ℕ) (size : length one ≡ length other) (perm : List·Permᴰ (rowsOf one) (rowsOf other)) where
-  good-again : Good one → Good other
+module _ (one another : List ℕ) (size : length one ≡ length another) (perm : List·Permᴰ (rowsOf one) (rowsOf another)) where
+  good-again : Good one → Good another
   good-again good = record { whole = rw size at (good .whole); rows = perm-good perm (good .rows) }
 
-  source-again : Good one → (k : Kind) (source : List ℕ) → sourceLevel (rowsOf one) k source ≡ sourceLevel (rowsOf other) k source
-  source-again good Local source = refl
-  source-again good Unspecified source = refl
-  source-again good (Ip4 t) source = perm-level perm (good .rows) 4 source
-  source-again good (Ip6 t) source = perm-level perm (good .rows) 6 source
-  source-again good (Unix t) source = refl
+  source-again : Good one → (o : Origin) (source : List ℕ) → sourceLevel (rowsOf one) o source ≡ sourceLevel (rowsOf another) o source
+  source-again good local source = refl
+  source-again good (stream family) source = perm-level perm (good .rows) family source
+  source-again good other source = refl
 
-  by-again : Good one → (v : Claim.Verdict Header) → admissionBy (rowsOf one) v ≡ admissionBy (rowsOf other) v
-  by-again good (Claim.accepted h n) = ap (profile h n) (source-again good (h .«record» .kind) (h .«record» .source))
+  by-again : Good one → (v : Claim.Verdict Header) → admissionBy (rowsOf one) v ≡ admissionBy (rowsOf another) v
+  by-again good (Claim.accepted h n) = ap (profile h n) (source-again good (originOf (h .«record» .kind)) (h .«record» .source))
   by-again good (Claim.more n) = refl
   by-again good (Claim.refused k p) = refl
 
-pub order-free : (one other s : List ℕ) → length one ≡ length other → List·Permᴰ (rowsOf one) (rowsOf other) → admission one s ≡ admission other s
-order-free one other s size perm = by (goodTable one) refl
+pub order-free : (one another s : List ℕ) → length one ≡ length another → List·Permᴰ (rowsOf one) (rowsOf another) → admission one s ≡ admission another s
+order-free one another s size perm = by (goodTable one) refl
   where
-    by : (b : Bool) → goodTable one ≡ b → admission one s ≡ admission other s
+    by : (b : Bool) → goodTable one ≡ b → admission one s ≡ admission another s
     by true e =
         let good = table-tested one .0 e in
-        by-good one s good ∙ by-again one other size perm good (verdict s) ∙ sym (by-good other s (good-again one other size perm good))
+        by-good one s good ∙ by-again one another size perm good (verdict s) ∙ sym (by-good another s (good-again one another size perm good))
     by false e =
         let bad : Good one → ⊥ = λ good. never (sym e ∙ table-tested one .1 good) in
-        by-bad one s bad ∙ sym (by-bad other s (λ good. bad (good-again other one (sym size) (Permᴰ·symm perm) good)))
+        by-bad one s bad ∙ sym (by-bad another s (λ good. bad (good-again another one (sym size) (Permᴰ·symm perm) good)))
 
 -- ── "a table with one more row of level l changes levels only for sources in that prefix" ──
--- a source of this kind lies in the prefix
-abbrev pub InPrefix : Prefix → Kind → (source : List ℕ) → Type 0
-InPrefix p Local source = ⊥
-InPrefix p Unspecified source = ⊥
-InPrefix p (Ip4 t) source = Matches p 4 source
-InPrefix p (Ip6 t) source = Matches p 6 source
-InPrefix p (Unix t) source = ⊥
+-- a source lies in the prefix
+abbrev pub InPrefix : Prefix → Origin → (source : List ℕ) → Type 0
+InPrefix p local source = ⊥
+InPrefix p (stream family) source = Matches p family source
+InPrefix p other source = ⊥
 
 module _ (p : Prefix) (table larger : List ℕ) (good : Good table) (still : Good larger) (perm : List·Permᴰ (rowsOf larger) (p ∷ rowsOf table)) where
-  source-changes : (k : Kind) (source : List ℕ)
-      → (sourceLevel (rowsOf larger) k source ≡ sourceLevel (rowsOf table) k source) ⊎ (InPrefix p k source × (sourceLevel (rowsOf larger) k source ≡ p .level))
-  source-changes Local source = inl refl
-  source-changes Unspecified source = inl refl
-  source-changes (Ip4 t) source = one-more-row p (rowsOf table) (rowsOf larger) perm (still .rows) 4 source
-  source-changes (Ip6 t) source = one-more-row p (rowsOf table) (rowsOf larger) perm (still .rows) 6 source
-  source-changes (Unix t) source = inl refl
+  source-changes : (o : Origin) (source : List ℕ)
+      → (sourceLevel (rowsOf larger) o source ≡ sourceLevel (rowsOf table) o source) ⊎ (InPrefix p o source × (sourceLevel (rowsOf larger) o source ≡ p .level))
+  source-changes local source = inl refl
+  source-changes (stream family) source = one-more-row p (rowsOf table) (rowsOf larger) perm (still .rows) family source
+  source-changes other source = inl refl
 
   -- the answer is the same, or the source lies in the prefix and has its level
   pub one-more-changes : (s : List ℕ)
       → (admission larger s ≡ admission table s)
-      ⊎ ((h : Header) × (n : ℕ) × Judges (Claim.accepted h n) s × InPrefix p (h .«record» .kind) (h .«record» .source) × (admission larger s ≡ profile h n (p .level)))
+      ⊎ ((h : Header) × (n : ℕ) × Judges (Claim.accepted h n) s × InPrefix p (originOf (h .«record» .kind)) (h .«record» .source) × (admission larger s ≡ profile h n (p .level)))
   one-more-changes s = by (verdict s) refl (judges s)
     where
       same : (v : Claim.Verdict Header) → verdict s ≡ v → admissionBy (rowsOf larger) v ≡ admissionBy (rowsOf table) v → admission larger s ≡ admission table s
@@ -144,11 +131,11 @@ module _ (p : Prefix) (table larger : List ℕ) (good : Good table) (still : Goo
 
       by : (v : Claim.Verdict Header) → verdict s ≡ v → Judges v s
           → (admission larger s ≡ admission table s)
-          ⊎ ((h : Header) × (n : ℕ) × Judges (Claim.accepted h n) s × InPrefix p (h .«record» .kind) (h .«record» .source) × (admission larger s ≡ profile h n (p .level)))
+          ⊎ ((h : Header) × (n : ℕ) × Judges (Claim.accepted h n) s × InPrefix p (originOf (h .«record» .kind)) (h .«record» .source) × (admission larger s ≡ profile h n (p .level)))
       by (Claim.accepted h n) e j =
           ⊎-elim (λ kept. inl (same (Claim.accepted h n) e (ap (profile h n) kept)))
           (λ changed. inr (h, n, j, changed .0, by-good larger s still ∙ ap (admissionBy (rowsOf larger)) e ∙ ap (profile h n) (changed .1)))
-          (source-changes (h .«record» .kind) (h .«record» .source))
+          (source-changes (originOf (h .«record» .kind)) (h .«record» .source))
       by (Claim.more n) e j = inl (same (Claim.more n) e refl)
       by (Claim.refused k q) e j = inl (same (Claim.refused k q) e refl)
 
@@ -164,7 +151,7 @@ levelOf (denied k) = 0
 abbrev pub FromRow : (table s : List ℕ) (level : ℕ) → Type 0
 FromRow table s level =
     (level ≡ 0)
-    ⊎ ((h : Header) × (n : ℕ) × (p : Prefix) × Judges (Claim.accepted h n) s × List·Memᴰ p (rowsOf table) × InPrefix p (h .«record» .kind) (h .«record» .source) × (p .level ≡ level))
+    ⊎ ((h : Header) × (n : ℕ) × (p : Prefix) × Judges (Claim.accepted h n) s × List·Memᴰ p (rowsOf table) × InPrefix p (originOf (h .«record» .kind)) (h .«record» .source) × (p .level ≡ level))
 
 -- a profile gives the level of the source, or none
 abbrev Given : (level : ℕ) → Admission → Type 0
@@ -172,43 +159,34 @@ Given level a = (levelOf a ≡ 0) ⊎ (levelOf a ≡ level)
 
 profile-level : (h : Header) (n level : ℕ) → Given level (profile h n level)
 profile-level h n level =
-    pick-by (Given level) (eqb (h .version) 2) (λ e. by-kind (h .«record» .kind)) (λ e. inl refl)
+    pick-by (Given level) (eqb (h .version) 2) (λ e. by-origin (originOf (h .«record» .kind))) (λ e. inl refl)
   where
     short : (a : Admission) → Given level a → Given level (ifShort n a)
     short a g = pick-by (Given level) (leb n 536) (λ e. g) (λ e. inl refl)
 
-    of-stream : Given level (stream (h .area) n level)
-    of-stream = short _ (pick-by (Given level) (identified (h .area)) (λ e. inr refl) (λ e. inl refl))
-
-    by-kind : (k : Kind) → Given level (byKind k (h .area) n level)
-    by-kind Local = short (admitted 0 n 0 0) (inl refl)
-    by-kind Unspecified = inl refl
-    by-kind (Ip4 Stream) = of-stream
-    by-kind (Ip4 Datagram) = inl refl
-    by-kind (Ip6 Stream) = of-stream
-    by-kind (Ip6 Datagram) = inl refl
-    by-kind (Unix t) = inl refl
+    by-origin : (o : Origin) → Given level (byOrigin o (h .area) n level)
+    by-origin local = short (admitted 0 n 0 0) (inl refl)
+    by-origin (stream family) = short _ (pick-by (Given level) (identified (h .area)) (λ e. inr refl) (λ e. inl refl))
+    by-origin other = inl refl
 
 pub level-from-row : (table s : List ℕ) → FromRow table s (levelOf (admission table s))
 level-from-row table s =
     pick-by (λ (a : Admission). FromRow table s (levelOf a)) (goodTable table) (λ e. by (verdict s) (judges s)) (λ e. inl refl)
   where
-    source-from : (k : Kind) (source : List ℕ)
-        → (sourceLevel (rowsOf table) k source ≡ 0)
-        ⊎ ((p : Prefix) × List·Memᴰ p (rowsOf table) × InPrefix p k source × (p .level ≡ sourceLevel (rowsOf table) k source))
-    source-from Local source = inl refl
-    source-from Unspecified source = inl refl
-    source-from (Ip4 t) source = level-from (rowsOf table) 4 source
-    source-from (Ip6 t) source = level-from (rowsOf table) 6 source
-    source-from (Unix t) source = inl refl
+    source-from : (o : Origin) (source : List ℕ)
+        → (sourceLevel (rowsOf table) o source ≡ 0)
+        ⊎ ((p : Prefix) × List·Memᴰ p (rowsOf table) × InPrefix p o source × (p .level ≡ sourceLevel (rowsOf table) o source))
+    source-from local source = inl refl
+    source-from (stream family) source = level-from (rowsOf table) family source
+    source-from other source = inl refl
 
     by : (v : Claim.Verdict Header) → Judges v s → FromRow table s (levelOf (admissionBy (rowsOf table) v))
     by (Claim.accepted h n) j =
         let source = h .«record» .source in
-        let kind = h .«record» .kind in
+        let origin = originOf (h .«record» .kind) in
         ⊎-elim inl
         (λ same.
-        ⊎-elim (λ zero. inl (same ∙ zero)) (λ w. inr (h, n, w .0, j, w .1, w .2, w .3 ∙ sym same)) (source-from kind source))
-        (profile-level h n (sourceLevel (rowsOf table) kind source))
+        ⊎-elim (λ zero. inl (same ∙ zero)) (λ w. inr (h, n, w .0, j, w .1, w .2, w .3 ∙ sym same)) (source-from origin source))
+        (profile-level h n (sourceLevel (rowsOf table) origin source))
     by (Claim.more n) j = inl refl
     by (Claim.refused k p) j = inl refl

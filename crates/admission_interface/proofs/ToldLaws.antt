@@ -28,8 +28,8 @@ use Rattle.connection.specs.Connection.{connectionBytes}
 use Rattle.read_interface.specs.ReadInterface.{Spoken, spoken, roomFor, ReadTold}
 use Rattle.read_interface.specs.AcceptedTold.{AcceptedTold, whole, area-told, sized, long-numbers}
 use Rattle.prefix_table.specs.Table.{rowsOf, Good}
-use Rattle.admission.specs.Profile.{Admission, byVersion}
-use Rattle.admission.specs.Admits.{sourceLevel, admissionBy, admission}
+use Rattle.profile.specs.Profile.{Admission, originOf, byVersion, sourceLevel}
+use Rattle.admission.specs.Admits.{admissionBy, admission}
 use Rattle.admission.specs.Demand.{by-good}
 use Rattle.admission_interface.specs.AdmissionInterface.{toldAdmission, knownKind, kindFrom, fourOf, AdmissionTold}
 
@@ -89,20 +89,20 @@ module _ (table s numbers : List ℕ) (good : Good table) (room : 4 ≤ length n
 
     -- by the parts that were told
     pub by-parts : (header : List ℕ) → header ≡ take (getD n 0 0) s
-        → byVersion (getD n 1 0) (kindFrom (getD c 0 0)) (drop (getD n 2 0) header) (length header) (sourceLevel (rowsOf table) (kindFrom (getD c 0 0)) (take 108 (drop 1 c)))
+        → byVersion (getD n 1 0) (originOf (kindFrom (getD c 0 0))) (drop (getD n 2 0) header) (length header) (sourceLevel (rowsOf table) (originOf (kindFrom (getD c 0 0))) (take 108 (drop 1 c)))
         ≡ admission table s
     by-parts header is =
         let first : getD n 0 0 ≡ m = ap (λ (l : List ℕ). getD l 0 0) (a .numbers-told) in
         let second : getD n 1 0 ≡ h .version = ap (λ (l : List ℕ). getD l 1 0) (a .numbers-told) in
         let third : getD n 2 0 ≡ m - length (h .area) = ap (λ (l : List ℕ). getD l 2 0) (a .numbers-told) in
         let size : length (take m s) ≡ m = length-take-le m s (whole s numbers empty n c a .0) in
-        let level : Kind → List ℕ → ℕ = sourceLevel (rowsOf table) in
+        let level : Kind → List ℕ → ℕ = λ (x : Kind). sourceLevel (rowsOf table) (originOf x) in
         let k : Kind = h .«record» .kind in
         let source : List ℕ = h .«record» .source in
-        ap₂ (λ (v : ℕ) (f : List ℕ). byVersion v (kindFrom (getD c 0 0)) (drop (getD n 2 0) f) (length f) (level (kindFrom (getD c 0 0)) (take 108 (drop 1 c)))) second
+        ap₂ (λ (v : ℕ) (f : List ℕ). byVersion v (originOf (kindFrom (getD c 0 0))) (drop (getD n 2 0) f) (length f) (level (kindFrom (getD c 0 0)) (take 108 (drop 1 c)))) second
         (is ∙ ap (λ (i : ℕ). take i s) first)
-        ∙ ap₂ (λ (x : Kind) (y : List ℕ). byVersion (h .version) x (drop (getD n 2 0) (take m s)) (length (take m s)) (level x y)) kind-is source-is
-        ∙ ap₂ (λ (x : List ℕ) (i : ℕ). byVersion (h .version) k x i (level k source)) (ap (λ (i : ℕ). drop i (take m s)) third ∙ area-told s numbers empty n c a) size
+        ∙ ap₂ (λ (x : Kind) (y : List ℕ). byVersion (h .version) (originOf x) (drop (getD n 2 0) (take m s)) (length (take m s)) (level x y)) kind-is source-is
+        ∙ ap₂ (λ (x : List ℕ) (i : ℕ). byVersion (h .version) (originOf k) x i (level k source)) (ap (λ (i : ℕ). drop i (take m s)) third ∙ area-told s numbers empty n c a) size
         ∙ ap (admissionBy (rowsOf table)) (sym (a .is))
         ∙ sym (by-good table s good)
 

@@ -12,7 +12,7 @@ use Rattle.kind_code.specs.Codes.{kindOf}
 use Rattle.lent.specs.Buffers.{toldIn}
 use Rattle.numbers.specs.declared.Told.{Told}
 use Rattle.numbers.specs.Numbers.{numbersSize}
-use Rattle.admission.specs.Profile.{Admission, admitted, more, refused, denied}
+use Rattle.profile.specs.Profile.{Admission, admitted, more, refused, denied}
 
 -- an answer that tells one number
 abbrev pub tellsOne : (answer first : ℕ) → Told

@@ -1,7 +1,4 @@
 // What C callers are told of a caller's level (document 02, K14). No public function has a `requires`.
-use admission::Answer;
-use admission::admit_header;
-use admission::denial_number;
 use answer::refusal_number;
 use kind_code::kind_of;
 use lent::front;
@@ -9,13 +6,16 @@ use numbers::NUMBERS;
 use numbers::Told;
 use numbers::put_numbers;
 use prefix_table::is_good_table;
+use profile::Answer;
+use profile::admit_header;
+use profile::denial_number;
 use read_interface::read;
 use record::Family;
 use record::Kind;
 ghost use mathlib.Core.Path.{_≡_};
 ghost use lib.ListN.{getD};
+ghost use Rattle.profile.specs.Answers.{toldAnswer};
 ghost use Rattle.admission.specs.Admits.{admission as admissionOf};
-ghost use Rattle.admission.specs.Answers.{toldAnswer};
 ghost use Rattle.admission_interface.specs.AdmissionInterface.{tellsOne, toldAdmission, kindFrom, AdmissionTold};
 
 // An answer that tells one number.

@@ -67,7 +67,7 @@ module _ (type : ℕ) where
 -- ── the unique ID ──
 module _ (tlvs : List Tlv) (has : hasId tlvs ≡ true) where
   one : countOf 0x05 tlvs ≡ 1
-  one = eqb-true (countOf 0x05 tlvs) 1 (both (eqb (countOf 0x05 tlvs) 1) (leb 1 (firstValue tlvs .size) && leb (firstValue tlvs .size) 128) has .0)
+  one = eqb-true (countOf 0x05 tlvs) 1 (both (eqb (countOf 0x05 tlvs) 1) _ has .0)
 
   pub the-id : FirstIn 0x05 tlvs
   the-id = first-in 0x05 tlvs (let e = one in omega arith)

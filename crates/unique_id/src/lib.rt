@@ -18,7 +18,10 @@ pub fn unique_id(area: &[u8]) -> UniqueId
 {
     match count_of(area, 0x05) {
         Count::Tlvs(n) => {
-            if n != 1 {
+            if n < 1 {
+                return UniqueId::Missing;
+            }
+            if 1 < n {
                 return UniqueId::Missing;
             }
             let found = lookup(area, 0x05, area.len());

@@ -28,6 +28,9 @@ abbrev μ-loop : tie.MeasureT-loop
 unit : (k : ℕ) → k ≤ 8 → 1 * 2 ^ k % 65536 ≡ 2 ^ k
 unit k h = let e = shl-exact {a = 1} 1 k 16 (omega arith) (omega arith) in let one : 1 * 2 ^ k ≡ 2 ^ k = omega arith in e ∙ one
 
+unit-some : (k : ℕ) → k ≤ 8 → 0 < 1 * 2 ^ k % 65536
+unit-some k h = rw (unit k h) (power k)
+
 -- no prefix is longer than an address
 returns : tie.Need-returns Inv-loop μ-loop
 returns c =
@@ -45,7 +48,7 @@ module _ (c : tie.After-byte-at Inv-loop μ-loop) where
   end = ap₂ (λ (y m : ℕ). y % m) (c .byte-at .ensures) (unit (8 - bits % 8) (omega arith))
 
 rem-if2 : tie.Need-rem-if2 Inv-loop μ-loop
-rem-if2 c = rw (unit (8 - bits c % 8) (omega arith)) (power (8 - bits c % 8))
+rem-if2 c = unit-some _ (omega arith)
 
 returns-2 : tie.Need-returns-2 Inv-loop μ-loop
 returns-2 c =

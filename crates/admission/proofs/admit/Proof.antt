@@ -25,8 +25,8 @@ use Rattle.answer.specs.Answers.{toldVerdict, blockArea, areaOf}
 use Rattle.prefix_table.specs.Table.{rowsOf, Good}
 use Rattle.prefix_table.specs.TableTests.{goodTable}
 use Rattle.prefix_table.specs.TableLaws.{table-tested}
-use Rattle.admission.specs.Profile.{Admission, denied, byKind, byVersion}
-use Rattle.admission.specs.Admits.{sourceLevel, Admits, admissionBy, admission}
+use Rattle.profile.specs.Profile.{Admission, denied, originOf, byOrigin, byVersion, sourceLevel}
+use Rattle.admission.specs.Admits.{Admits, admissionBy, admission}
 use Rattle.admission.specs.Demand.{by-good, admits}
 use Rattle.admission.proofs.admit.Statement.{statement}
 use Rattle.admission.proofs.admit.Tie as tie
@@ -43,10 +43,10 @@ returns c =
 
 -- the area from 16 + A on is the header's, where it is looked at
 area-seen : (version : ℕ) (kind : Kind) (f : List ℕ) (n level : ℕ)
-    → byVersion version kind (drop (16 + blockLength kind) f) n level ≡ byVersion version kind (areaOf version kind f) n level
+    → byVersion version (originOf kind) (drop (16 + blockLength kind) f) n level ≡ byVersion version (originOf kind) (areaOf version kind f) n level
 area-seen version kind f n level = by (eqb version 2)
   where
-    of-kind : (k : Kind) → byKind k (drop (16 + blockLength k) f) n level ≡ byKind k (blockArea k f) n level
+    of-kind : (k : Kind) → byOrigin (originOf k) (drop (16 + blockLength k) f) n level ≡ byOrigin (originOf k) (blockArea k f) n level
     of-kind Local = refl
     of-kind Unspecified = refl
     of-kind (Ip4 Stream) = refl
@@ -55,7 +55,7 @@ area-seen version kind f n level = by (eqb version 2)
     of-kind (Ip6 Datagram) = refl
     of-kind (Unix t) = refl
 
-    by : (b : Bool) → pick b (byKind kind (drop (16 + blockLength kind) f) n level) (denied 30) ≡ pick b (byKind kind (pick b (blockArea kind f) []) n level) (denied 30)
+    by : (b : Bool) → pick b (byOrigin (originOf kind) (drop (16 + blockLength kind) f) n level) (denied 30) ≡ pick b (byOrigin (originOf kind) (pick b (blockArea kind f) []) n level) (denied 30)
     by true = of-kind kind
     by false = refl
 
@@ -97,14 +97,14 @@ module _ (c : tie.After-read) where
   -- and by the parts of an accepted header
   by-parts : (n version : ℕ) → reading .verdict ≡ Accepted n version → (header : List ℕ) (at : ℕ) → header ≡ take n bytes
       → at ≡ 16 + blockLength (reading .«record» .kind)
-      → byVersion version (reading .«record» .kind) (drop at header) (length header) (sourceLevel (rowsOf table) (reading .«record» .kind) (reading .«record» .source))
+      → byVersion version (originOf (reading .«record» .kind)) (drop at header) (length header) (sourceLevel (rowsOf table) (originOf (reading .«record» .kind)) (reading .«record» .source))
       ≡ admission table bytes
   by-parts n version e header at is place =
       let kind = reading .«record» .kind in
-      let level = sourceLevel (rowsOf table) kind (reading .«record» .source) in
+      let level = sourceLevel (rowsOf table) (originOf kind) (reading .«record» .source) in
       let size = length-take-le n bytes (judged (Accepted n version) e .0) in
-      ap₂ (λ (f : List ℕ) (i : ℕ). byVersion version kind (drop i f) (length f) level) is place
-      ∙ ap (λ (m : ℕ). byVersion version kind (drop (16 + blockLength kind) (take n bytes)) m level) size
+      ap₂ (λ (f : List ℕ) (i : ℕ). byVersion version (originOf kind) (drop i f) (length f) level) is place
+      ∙ ap (λ (m : ℕ). byVersion version (originOf kind) (drop (16 + blockLength kind) (take n bytes)) m level) size
       ∙ area-seen version kind (take n bytes) n level
       ∙ by-verdict (Accepted n version) e
 

@@ -17,8 +17,8 @@ use Rattle.record.specs.declared.Kind.{Kind}
 use Rattle.prefix_table.specs.Table.{rowsOf, Good}
 use Rattle.prefix_table.specs.TableTests.{goodTable}
 use Rattle.prefix_table.specs.TableLaws.{table-tested}
-use Rattle.admission.specs.Profile.{Admission, denied, byVersion}
-use Rattle.admission.specs.Admits.{sourceLevel, admission}
+use Rattle.profile.specs.Profile.{Admission, denied, originOf, byVersion, sourceLevel}
+use Rattle.admission.specs.Admits.{admission}
 use Rattle.admission_interface.specs.AdmissionInterface.{toldAdmission, AdmissionTold}
 use Rattle.admission_interface.proofs.ToldLaws.{empty, passed-on, small-version, by-parts, told-over}
 use Rattle.admission_interface.proofs.admit.Statement.{statement}
@@ -109,7 +109,7 @@ returns-4 c =
     let header = now (cut .front .result) in
     let parts =
     ap
-    (λ (k : Kind). byVersion (getD n 1 0) k (drop (getD n 2 0) header) (length header) (sourceLevel (rowsOf (table d)) k (take 108 (drop 1 (connection-left d)))))
+    (λ (k : Kind). byVersion (getD n 1 0) (originOf k) (drop (getD n 2 0) header) (length header) (sourceLevel (rowsOf (table d)) (originOf k) (take 108 (drop 1 (connection-left d)))))
     (kind .kind-from .ensures)
     ∙ by-parts (table d) (bytes d) (numbers d) (good d) (room d) n (connection-left d) (a e) header (cut .front .ensures .2) in
     told-over (table d) (bytes d) (numbers d) (good d) (room d) (numbers-left d) (connection-left d) (a e) (said .tell .result) (put .put-numbers2 .last .0)

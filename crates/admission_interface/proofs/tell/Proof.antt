@@ -2,8 +2,8 @@
 use mathlib.Core.Path.{_≡_, sym, ap, _∙_}
 use Prim.Native.Nat.{ℕ}
 use borrow.Author.Needs.{needs}
-use Rattle.admission.specs.declared.Answer.{Answer}
-use Rattle.admission.specs.Answers.{toldAnswer}
+use Rattle.profile.specs.declared.Answer.{Answer}
+use Rattle.profile.specs.Answers.{toldAnswer}
 use Rattle.admission_interface.specs.AdmissionInterface.{tellsOne, toldAdmission}
 use Rattle.admission_interface.proofs.tell.Statement.{statement}
 use Rattle.admission_interface.proofs.tell.Tie as tie

@@ -98,18 +98,21 @@ module _ (c : tie.After-known-told) where
   tlv-list = counted-here bytes (known .count-of .result) (known .count-of .ensures) n (c .before .n .given .1)
 
 returns : tie.Need-returns
-returns c = let d = c .before in other-count (bytes d) (n d) (tlv-list d .0) (tlv-list d .1) (c .if1 .taken)
+returns c = let d = c .before in other-count (bytes d) (n d) (tlv-list d .0) (tlv-list d .1) (λ e. omega arith)
+
+returns-2 : tie.Need-returns-2
+returns-2 c = let d = c .before .before in other-count (bytes d) (n d) (tlv-list d .0) (tlv-list d .1) (λ e. omega arith)
 
 -- one is counted, and its value has this size
 module _ (c : tie.After-lookup) where
   abbrev d : tie.After-known-told
-  d = c .before .before
+  d = c .before .before .before
 
   abbrev w : WellFormed (bytes d)
   w = tlv-list d .0
 
   one : countOf 0x05 (w .0) ≡ 1
-  one = tlv-list d .1 ∙ c .before .if1 .left
+  one = let e = tlv-list d .1 in omega arith
 
   size : c .lookup .result .length ≡ firstValue (w .0) .size
   size = size-is (bytes d) w one (c .lookup .result) (c .lookup .ensures)
@@ -118,28 +121,28 @@ module _ (c : tie.After-lookup) where
       → pick (low && high) (some (firstValue (w .0))) none ≡ idIn (bytes d)
   sized = by-size (bytes d) w one (c .lookup .result) (c .lookup .ensures)
 
-returns-2 : tie.Need-returns-2
-returns-2 c =
+returns-3 : tie.Need-returns-3
+returns-3 c =
     let e = c .before in
     let s = size e in
     sized e false (leb (firstValue (w e .0) .size) 128) (lt-leb 1 (firstValue (w e .0) .size) (omega arith)) refl
 
-returns-3 : tie.Need-returns-3
-returns-3 c =
+returns-4 : tie.Need-returns-4
+returns-4 c =
     let e = c .before .before in
     let s = size e in
     sized e true false (le-leb 1 (firstValue (w e .0) .size) (omega arith)) (lt-leb (firstValue (w e .0) .size) 128 (omega arith))
 
-returns-4 : tie.Need-returns-4
-returns-4 c =
+returns-5 : tie.Need-returns-5
+returns-5 c =
     let e = c .before .before in
     let s = size e in
     let start = start-is (bytes (d e)) (w e) (one e) (e .lookup .result) (e .lookup .ensures) in
     ap₂ (λ (x y : ℕ). some (record { start = x; size = y })) start s
     ∙ sized e true true (le-leb 1 (firstValue (w e .0) .size) (omega arith)) (le-leb (firstValue (w e .0) .size) 128 (omega arith))
 
-returns-5 : tie.Need-returns-5
-returns-5 c =
+returns-6 : tie.Need-returns-6
+returns-6 c =
     let known = c .before .before in
     let area = now (known .before .before .args .area) in
     ill-formed area (refused-here area (known .count-of .result) (known .count-of .ensures) (c .enum-told .given .1))
@@ -147,4 +150,4 @@ returns-5 c =
 pub unique-id-spec : {M : Type 1} → statement M
 unique-id-spec =
     tie.close
-    (tie.spec (λ c κs. search needs) (λ c. search needs) returns (λ c κs. search needs) returns-2 returns-3 (λ c. search needs) returns-4 returns-5)
+    (tie.spec (λ c κs. search needs) (λ c. search needs) returns returns-2 (λ c κs. search needs) returns-3 returns-4 (λ c. search needs) returns-5 returns-6)

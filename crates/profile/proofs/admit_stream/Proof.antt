@@ -13,9 +13,9 @@ use Rattle.exact.specs.Pick.{pick}
 use Rattle.unique_id.specs.declared.UniqueId.{UniqueId}
 use Rattle.unique_id.specs.UniqueId.{Value, identified, idOf, idIn, toldId}
 use Rattle.unique_id.specs.IdLaws.{id-inside}
-use Rattle.admission.specs.Profile.{admitted, denied, stream}
-use Rattle.admission.proofs.admit_stream.Statement.{statement}
-use Rattle.admission.proofs.admit_stream.Tie as tie
+use Rattle.profile.specs.Profile.{admitted, denied, ifShort, ifIdentified}
+use Rattle.profile.proofs.admit_stream.Statement.{statement}
+use Rattle.profile.proofs.admit_stream.Tie as tie
 
 returns : tie.Need-returns
 returns c =
@@ -43,7 +43,7 @@ module _ (c : tie.After-unique-id) where
 
   -- of a header that is short enough
   short : (b : Bool) (level : ℕ) → identified area ≡ b
-      → pick b (admitted level (length header) (length header - length area + idOf area .start) (idOf area .size)) (denied 33) ≡ stream area (length header) level
+      → pick b (admitted level (length header) (length header - length area + idOf area .start) (idOf area .size)) (denied 33) ≡ ifShort (length header) (ifIdentified area (length header) level)
   short b level e =
       rw (le-leb (length header) 536 (let h = c .before .before .if1 .left in omega arith))
       (ap (λ (t : Bool). pick t (admitted level (length header) (length header - length area + idOf area .start) (idOf area .size)) (denied 33)) (sym e))
@@ -96,7 +96,7 @@ returns-2 c =
     let n = length (header e) in
     ap₂ (λ (m : ℕ) (v : Value). admitted (c .level-of .result) n (n - m + v .start) (v .size)) (size e) (is k .1)
     ∙ short e true (c .level-of .result) (is k .0)
-    ∙ ap (stream (area e) n) (c .level-of .ensures)
+    ∙ ap (λ (l : ℕ). ifShort n (ifIdentified (area e) n l)) (c .level-of .ensures)
 
 returns-3 : tie.Need-returns-3
 returns-3 c =
