@@ -22,9 +22,13 @@ pub record Value : Type 0 where
 abbrev pub firstValue : List Tlv → Value
 firstValue tlvs = record { start = startOf (firstOf 0x05 tlvs) tlvs; size = lengthOf (firstOf 0x05 tlvs) tlvs }
 
+-- "of 1 to 128 bytes"
+abbrev pub isSized : Value → Bool
+isSized v = leb 1 (v .size) && leb (v .size) 128
+
 -- "exactly one TLV 0x05, of 1 to 128 bytes"
 abbrev pub hasId : List Tlv → Bool
-hasId tlvs = eqb (countOf 0x05 tlvs) 1 && (leb 1 (firstValue tlvs .size) && leb (firstValue tlvs .size) 128)
+hasId tlvs = eqb (countOf 0x05 tlvs) 1 && isSized (firstValue tlvs)
 
 -- the same of an area; one that TLVs do not fill has none
 abbrev pub identified : List ℕ → Bool

@@ -19,7 +19,7 @@ use Rattle.lookup.specs.Lookup.{Lookup, foundAt, toldLookup, firstOf, startOf, 
 use Rattle.tlv_count.specs.declared.Count.{Count}
 use Rattle.tlv_count.specs.declared.Count.the-variants.{Tlvs, IllFormed}
 use Rattle.tlv_count.specs.Count.{countOf, Counts}
-use Rattle.unique_id.specs.UniqueId.{Value, firstValue, hasId, idOf, idIn}
+use Rattle.unique_id.specs.UniqueId.{Value, firstValue, isSized, hasId, idOf, idIn}
 use Rattle.unique_id.specs.IdLaws.{first-in, first-below}
 use Rattle.unique_id.proofs.unique_id.Statement.{statement}
 use Rattle.unique_id.proofs.unique_id.Tie as tie
@@ -54,7 +54,7 @@ module _ (area : List ℕ) where
   -- another count than one
   pub other-count : (n : ℕ) (w : WellFormed area) → countOf 0x05 (w .0) ≡ n → (n ≡ 1 → ⊥) → none ≡ idIn area
   other-count n w is other =
-      ap (λ (b : Bool). pick (b && (leb 1 (firstValue (w .0) .size) && leb (firstValue (w .0) .size) 128)) (some (firstValue (w .0))) none)
+      ap (λ (b : Bool). pick (b && isSized (firstValue (w .0))) (some (firstValue (w .0))) none)
       (sym (ne-eqb (countOf 0x05 (w .0)) 1 (λ e. other (sym is ∙ e))))
       ∙ filled w
 
@@ -80,7 +80,7 @@ module _ (area : List ℕ) where
         → pick (low && high) (some (firstValue tlvs)) none ≡ idIn area
     by-size low high l h =
         ap₂ (λ (a b : Bool). pick (a && b) (some (firstValue tlvs)) none) (sym l) (sym h)
-        ∙ ap (λ (b : Bool). pick (b && (leb 1 (firstValue tlvs .size) && leb (firstValue tlvs .size) 128)) (some (firstValue tlvs)) none)
+        ∙ ap (λ (b : Bool). pick (b && isSized (firstValue tlvs)) (some (firstValue tlvs)) none)
         (sym (eq-eqb (countOf 0x05 tlvs) 1 one))
         ∙ filled w
 
