@@ -13,6 +13,9 @@ ghost use Rattle.prefix_table.specs.TableTests.{levelIn};
 ghost use Rattle.profile.specs.Profile.{admitted, ofFamily, originOf, ifShort, ifIdentified, byVersion, sourceLevel};
 ghost use Rattle.profile.specs.Answers.{denialNumber, toldAnswer, toldOrigin};
 
+// The longest header that the profile takes.
+const LONGEST: usize = 536;
+
 // Why a caller is not admitted: document 02's numbers 30 to 34.
 pub enum Denial {
     Version,
@@ -57,7 +60,7 @@ pub fn denial_number(denial: Denial) -> u8
 }
 
 // Where a connection comes from, as far as the profile tells kinds apart: a stream has the family of its source.
-pub enum Origin {
+enum Origin {
     Local,
     Stream(u8),
     Other,
@@ -90,7 +93,7 @@ fn origin_of(kind: Kind) -> Origin
 fn admit_local(size: usize) -> Answer
     ensures { λ r. ⌜ toldAnswer r ≡ ifShort size (admitted 0 size 0 0) ⌝ }
 {
-    if 536 < size {
+    if LONGEST < size {
         return Answer::Denied(Denial::Length);
     }
     Answer::Admitted {
@@ -105,7 +108,7 @@ fn admit_local(size: usize) -> Answer
 fn admit_stream(table: &[u8], family: u8, source: &[u8], header: &[u8], at: usize) -> Answer
     ensures { λ r. ⌜ toldAnswer r ≡ ifShort (length (now (header .entry))) (ifIdentified (drop at (now (header .entry))) (length (now (header .entry))) (levelIn (rowsOf (now (table .entry))) family (now (source .entry)))) ⌝ }
 {
-    if 536 < header.len() {
+    if LONGEST < header.len() {
         return Answer::Denied(Denial::Length);
     }
     let area = behind(header, at);
