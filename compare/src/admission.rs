@@ -9,6 +9,9 @@ use crate::{headers, hex, library, Left, NUMBERS};
 use std::collections::BTreeMap;
 use std::fmt;
 
+/// The longest header that is admitted.
+const LONGEST: u64 = 536;
+
 /// What is lent to a call.
 #[derive(Clone, Copy)]
 struct Call<'a> {
@@ -95,6 +98,16 @@ impl Admissions {
         }
         self.outcome.holds(there == *here || there == changed, || format!("{first} leaves {here}, but with {row:?} {call} leaves {there}"));
         there != *here
+    }
+
+    /// Where some bytes that the header begins with, and what "more" asks behind them, are together over 536 bytes, the header is not admitted: the call with all of it
+    /// left this. Whether they are is given back.
+    fn waits_in_vain(&mut self, whole: Call, here: &Left, begun: usize) -> bool {
+        let call = Call { bytes: &whole.bytes[..begun], ..whole };
+        let there = call.library();
+        let vain = there.answer == MORE && begun as u64 + there.numbers[0] > LONGEST;
+        self.outcome.holds(!vain || here.answer != 0, || format!("{call} leaves {there}, but {whole} leaves {here}"));
+        vain
     }
 
     /// These answers came, and no other.
@@ -265,11 +278,11 @@ pub fn rooms() -> Outcome {
 }
 
 /// Tables at random, good and damaged, and headers from sources at the borders of their prefixes. The order of the rows does not matter; bytes behind change no
-/// answer but "more"; and one more row changes the level only of sources in its prefix, to its own.
+/// answer but "more"; one more row changes the level only of sources in its prefix, to its own; and "more" that leads over 536 bytes leads to no level.
 pub fn generated(random: &mut Random, count: usize) -> Outcome {
     let mut admissions = Admissions::new("tables and headers at random");
     let others = headers::short();
-    let mut changed = 0;
+    let (mut changed, mut vain) = (0, 0);
     for _ in 0..count {
         let rows = prefix_tables::any(random);
         let [source, other] = [(); 2].map(|()| prefix_tables::address(&rows, random));
@@ -277,6 +290,7 @@ pub fn generated(random: &mut Random, count: usize) -> Outcome {
         let call = Call { table: &bytes(&rows), bytes: &header, numbers: interface::numbers(random) };
         admissions.calls_alike(Call { table: &prefix_tables::damaged(&rows, random), ..call }, random);
         let here = admissions.calls_alike(call, random);
+        vain += usize::from(admissions.waits_in_vain(call, &here, random.below(header.len() + 1)));
         let row = prefix_tables::around([source, other][random.below(2)], random);
         if rows.len() < MOST && !prefix_tables::has(&rows, &row) {
             let longer = prefix_tables::with_row(&rows, row, random);
@@ -284,6 +298,7 @@ pub fn generated(random: &mut Random, count: usize) -> Outcome {
         }
     }
     admissions.outcome.holds(changed > 0, || "no level was changed by one more row".to_string());
-    admissions.outcome.name = format!("{}, {changed} levels changed by one more row", admissions.outcome.name);
+    admissions.outcome.holds(vain > 0, || "no header was too long to wait for".to_string());
+    admissions.outcome.name = format!("{}, {changed} levels changed by one more row, {vain} headers too long to wait for", admissions.outcome.name);
     admissions.all_reached()
 }
