@@ -1,3 +1,4 @@
 pub mod Admits
 pub mod Demand
 pub mod Callers
+pub mod Example
