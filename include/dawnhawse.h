@@ -33,7 +33,7 @@
  *   dawnhawse_forward             1408   nothing: at most 222 bytes are read and 223 written
  *   dawnhawse_back                1408   nothing: at most 223 bytes are read and 222 written
  *   dawnhawse_crc32c              1152   the bytes, each looked at once
- *   dawnhawse_doorman             1024   the pairs of the table's rows, at most 2016; then as dawnhawse_read, TLVs up to five times
+ *   dawnhawse_doorman              896   the pairs of the table's rows, at most 2016; then as dawnhawse_read, TLVs up to five times
  *
  * Stack is a bound in bytes, the return address among them; tests/stack.c measures each function on a painted stack.
  */
@@ -534,9 +534,9 @@ uint32_t dawnhawse_crc32c(const uint8_t *bytes, size_t bytes_len);
  *
  * DAWNHAWSE_MORE and its n are those of dawnhawse_read: some continuation is a whole header, but perhaps none that is admitted. Bytes
  * that no continuation can get admitted, as those of a version 1 line or of a version 2 header with a length over 520, are still
- * DAWNHAWSE_MORE until the header is whole, which may take 65551 bytes. So limit how much is waited for: where the bytes received
- * and n are together more than DAWNHAWSE_LONGEST_ADMITTED, no continuation is admitted, and the caller may hang up. A caller who
- * does so, and reads at most n bytes each time, needs room for 536 bytes only (examples/doorman.c).
+ * DAWNHAWSE_MORE until the header is whole or refused, which may take 65551 bytes. So limit how much is waited for: where the bytes
+ * received and n are together more than DAWNHAWSE_LONGEST_ADMITTED, no continuation is admitted, and the caller may hang up. A caller
+ * who does so, and reads at most n bytes each time, needs room for 536 bytes only (examples/doorman.c).
  *
  * The level is that of the source that the header names. Whoever can send a header can name any source, so take headers from the
  * proxy only.

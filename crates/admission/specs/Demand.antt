@@ -1,10 +1,10 @@
 -- What holds of the answer to all tables and all bytes (document 02, K14): one answer is claimed; bytes behind the header change none but "more"; the
--- order of the rows does not matter; what one more row changes; and where a level comes from.
+-- order of the rows does not matter; what one more row changes; where a level comes from; and that none is over 3.
 use mathlib.Core.Path.{_≡_, refl, sym, ap, _∙_, subst}
 use mathlib.Core.Bool.{Bool, true, false}
-use mathlib.Core.List.{List, [], _∷_, _++_, List·Memᴰ, List·Permᴰ, Permᴰ·symm}
-use mathlib.Core.Logic.{_↔_, _⊎_, inl, inr, ⊎-elim}
-use Prim.Native.Nat.{ℕ}
+use mathlib.Core.List.{List, _∷_, _++_, List·Memᴰ, List·Permᴰ, Permᴰ·symm}
+use mathlib.Core.Logic.{_⊎_, inl, inr, ⊎-elim}
+use Prim.Native.Nat.{ℕ, _≤_}
 use native.Mathlib.Omega.{arith}
 use lib.Dec.{eqb, leb}
 use lib.ListN.{length}
@@ -190,3 +190,15 @@ level-from-row table s =
         (profile-level h n (sourceLevel (rowsOf table) origin source))
     by (Claim.more n) j = inl refl
     by (Claim.refused k p) j = inl refl
+
+-- "level 0 to 3"
+pub level-small : (table s : List ℕ) → levelOf (admission table s) ≤ 3
+level-small table s = by (goodTable table) refl
+  where
+    small : (l : ℕ) → Good table → FromRow table s l → l ≤ 3
+    small l good (inl e) = omega arith
+    small l good (inr w) = let r = good .rows .ranged (w .2) (w .4) .1 in let e = w .6 in omega arith
+
+    by : (b : Bool) → goodTable table ≡ b → levelOf (admission table s) ≤ 3
+    by true e = small _ (table-tested table .0 e) (level-from-row table s)
+    by false e = let z = ap levelOf (by-bad table s (λ good. never (sym e ∙ table-tested table .1 good))) in omega arith

@@ -1,6 +1,6 @@
 -- What `read` has told is the answer, or gives the parts of the header that the profile is about.
 use mathlib.Core.Path.{_≡_, refl, sym, ap, ap₂, _∙_, subst}
-use mathlib.Core.Bool.{Bool, true, false}
+use mathlib.Core.Bool.{true}
 use mathlib.Core.List.{List, [], _∷_, _++_, append-assoc}
 use mathlib.Core.Logic.{inl, inr}
 use Prim.Native.Nat.{ℕ, _-_, _≤_, _<_}
@@ -12,10 +12,7 @@ use lib.Seq.{length-take-le, take-at}
 use Rattle.exact.specs.Claim as Claim
 use Rattle.exact.specs.Claim.{accepted, more, refused}
 use Rattle.exact.specs.Network.{network}
-use Rattle.exact.specs.Pick.{pick}
 use Rattle.record.specs.declared.Kind.{Kind}
-use Rattle.record.specs.declared.Record.{Record}
-use Rattle.kind_code.specs.Codes.{codeOf}
 use Rattle.kind_code.specs.States.{stateByte}
 use Rattle.kind_code.specs.CodeLaws.{code-kind}
 use Rattle.header.specs.Header.{Header, Whole}
@@ -25,13 +22,14 @@ use Rattle.lent.specs.Buffers.{over, toldIn}
 use Rattle.lent.specs.BufferLaws.{roomy, over-over, over-all}
 use Rattle.numbers.specs.declared.Told.{Told}
 use Rattle.connection.specs.Connection.{connectionBytes}
-use Rattle.read_interface.specs.ReadInterface.{Spoken, spoken, roomFor, ReadTold}
+use Rattle.read_interface.specs.ReadInterface.{spoken, ReadTold}
 use Rattle.read_interface.specs.AcceptedTold.{AcceptedTold, whole, area-told, sized, long-numbers}
 use Rattle.prefix_table.specs.Table.{rowsOf, Good}
 use Rattle.profile.specs.Profile.{Admission, originOf, byVersion, sourceLevel}
 use Rattle.admission.specs.Admits.{admissionBy, admission}
 use Rattle.admission.specs.Demand.{by-good}
-use Rattle.admission_interface.specs.AdmissionInterface.{toldAdmission, knownKind, kindFrom, fourOf, AdmissionTold}
+use Rattle.admission_interface.specs.AdmissionInterface.{toldAdmission, fourOf, AdmissionTold}
+use Rattle.admission_interface.specs.KindFrom.{knownKind, kindFrom}
 
 -- the connection before it is told
 abbrev pub empty : List ℕ

@@ -1,14 +1,10 @@
 -- What `dawnhawse_doorman` answers and leaves in the numbers that are lent to it (document 02, K14).
 use mathlib.Core.Path.{_≡_}
 use mathlib.Core.List.{List, [], _∷_}
-use mathlib.Core.Option.{Option, some, none}
 use Prim.Native.Nat.{ℕ}
 use lib.Dec.{leb}
 use lib.ListN.{length}
 use Rattle.exact.specs.Pick.{pick}
-use Rattle.record.specs.declared.Kind.{Kind}
-use Rattle.record.specs.declared.Kind.the-variants.{Unspecified}
-use Rattle.kind_code.specs.Codes.{kindOf}
 use Rattle.lent.specs.Buffers.{toldIn}
 use Rattle.numbers.specs.declared.Told.{Told}
 use Rattle.numbers.specs.Numbers.{numbersSize}
@@ -25,14 +21,6 @@ toldAdmission (admitted level n start size) = record { answer = 0; first = level
 toldAdmission (more n) = tellsOne 255 n
 toldAdmission (refused k p) = tellsOne k p
 toldAdmission (denied k) = tellsOne k 0
-
--- the kind of a kind code, as the code holds it
-abbrev pub knownKind : Option Kind → Kind
-knownKind (some kind) = kind
-knownKind none = Unspecified
-
-abbrev pub kindFrom : (code : ℕ) → Kind
-kindFrom code = knownKind (kindOf code)
 
 abbrev pub fourOf : Told → List ℕ
 fourOf t = t .first ∷ t .second ∷ t .start ∷ t .length ∷ []

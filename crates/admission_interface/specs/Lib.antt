@@ -1,1 +1,2 @@
 pub mod AdmissionInterface
+pub mod KindFrom

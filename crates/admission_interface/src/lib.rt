@@ -13,10 +13,10 @@ use read_interface::read;
 use record::Family;
 use record::Kind;
 ghost use mathlib.Core.Path.{_≡_};
-ghost use lib.ListN.{getD};
 ghost use Rattle.profile.specs.Answers.{toldAnswer};
 ghost use Rattle.admission.specs.Admits.{admission as admissionOf};
-ghost use Rattle.admission_interface.specs.AdmissionInterface.{tellsOne, toldAdmission, kindFrom, AdmissionTold};
+ghost use Rattle.admission_interface.specs.AdmissionInterface.{tellsOne, toldAdmission, AdmissionTold};
+ghost use Rattle.admission_interface.specs.KindFrom.{kindFrom};
 
 // An answer that tells one number.
 fn tell_one(answer: u32, first: u64) -> Told
@@ -66,8 +66,9 @@ fn kind_from(code: u8) -> Kind
     }
 }
 
-// The answer to a table and the bytes so far. With room for 4 numbers they are told; else nothing is written. What `read` tells of the bytes is the answer,
-// but for an accepted header: of that it tells the parts that the profile is about.
+// The answer to a table and the bytes so far. With room for 4 numbers they are told; else nothing is written. It goes by what `read` tells, and not through
+// `admission::admit`: called at two places, the reader would be slower at both, and a record by value would take five times the stack. What `read` tells is the
+// answer, but for an accepted header: of that it tells the parts that the profile is about.
 pub fn admit(table: &[u8], bytes: &[u8], numbers: &mut [u64]) -> u32
     ensures { λ r. ⌜ AdmissionTold (admissionOf (now (table .entry)) (now (bytes .entry))) (now (numbers .entry)) r (now (numbers .exit)) ⌝ }
 {

@@ -4,11 +4,10 @@ use mathlib.Core.Bool.{Bool, true, false, _&&_}
 use mathlib.Core.List.{List}
 use mathlib.Core.Logic.{_↔_, _⊎_, inl, inr}
 use Prim.Native.Nat.{ℕ, _≤_}
-use native.Mathlib.Omega.{arith}
-use borrow.Author.Tests.{eqb-true, eqb-false, eq-eqb, leb-true, le-leb}
+use borrow.Author.Tests.{eqb-true, eq-eqb, leb-true, le-leb}
 use lib.Dec.{eqb, leb}
-use Rattle.exact.specs.Pick.{pick, both, never}
-use Rattle.address_bits.specs.Bits.{SameBits, sameBits, clearBits}
+use Rattle.exact.specs.Pick.{pick, both}
+use Rattle.address_bits.specs.Bits.{sameBits, clearBits}
 use Rattle.address_bits.specs.BitTests.{same-tested, clear-tested}
 use Rattle.prefix.specs.Prefix.{Prefix, InRange, Clear, SamePrefix, Matches}
 

@@ -6,7 +6,6 @@ use address_bits::same_bits;
 use lent::behind;
 use lent::front;
 ghost use mathlib.Core.Path.{_≡_};
-ghost use Prim.Native.Nat.{ℕ};
 ghost use Rattle.prefix.specs.Prefix.{rowOf};
 ghost use Rattle.prefix.specs.PrefixTests.{bitsFit, goodPrefix, samePrefix, matches as matchesBits};
 

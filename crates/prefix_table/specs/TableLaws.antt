@@ -1,43 +1,18 @@
--- The test of a table says what it is named for (`table-tested`); and a table row by row.
-use mathlib.Core.Path.{_≡_, refl, sym, ap, _∙_}
+-- The test of a table says no less and no more than `Good` (`table-tested`).
+use mathlib.Core.Path.{_≡_, refl, sym, _∙_}
 use mathlib.Core.Bool.{Bool, true, false, not, _&&_, _||_}
 use mathlib.Core.List.{List, [], _∷_, List·Memᴰ, List·Memᴰ·head, List·Memᴰ·tail, List·Memᴰ·not-nil, List·Memᴰ·cases-cons}
 use mathlib.Core.Logic.{_↔_, ⊎-elim}
-use Prim.Native.Nat.{ℕ, zero, suc, _+_, _-_, _/_, _%_, _≤_, _<_}
-use native.Mathlib.Omega.{arith}
+use Prim.Native.Nat.{ℕ, _%_}
 use borrow.Author.Tests.{eqb-true, eq-eqb, leb-true, le-leb}
 use lib.Dec.{eqb, leb}
-use lib.ListN.{length, drop, length-drop}
-use lib.Seq.{drop-drop}
+use lib.ListN.{length}
 use Rattle.exact.specs.Pick.{both, never}
-use Rattle.prefix.specs.Prefix.{Prefix, rowOf, InRange, Clear, SamePrefix}
+use Rattle.prefix.specs.Prefix.{Prefix, InRange, Clear, SamePrefix}
 use Rattle.prefix.specs.PrefixTests.{goodPrefix, samePrefix, good-tested, same-prefix-tested}
-use Rattle.prefix_table.specs.Table.{rowSize, mostRows, rowsFrom, rowsOf, Distinct, GoodRows, Good}
+use Rattle.prefix_table.specs.Table.{rowSize, mostRows, rowsOf, Distinct, Good}
 use Rattle.prefix_table.specs.TableTests.{known, goodRows, goodTable}
 
--- ── row by row ──
-rows-next : (table : List ℕ) → rowSize ≤ length table → rowsOf table ≡ rowOf table ∷ rowsOf (drop rowSize table)
-rows-next table h =
-    let e : length table / 19 ≡ suc (length (drop 19 table) / 19) = let d = length-drop 19 table in omega arith in
-    ap (λ (n : ℕ). rowsFrom n table) e
-
-rows-end : (table : List ℕ) → length table < rowSize → rowsOf table ≡ []
-rows-end table h = let e : length table / 19 ≡ 0 = omega arith in ap (λ (n : ℕ). rowsFrom n table) e
-
--- at a place in a table
-pub rows-at : (table : List ℕ) (at : ℕ) → rowSize ≤ length table - at → rowsOf (drop at table) ≡ rowOf (drop at table) ∷ rowsOf (drop (at + rowSize) table)
-rows-at table at h =
-    rows-next (drop at table) (let d = length-drop at table in omega arith)
-    ∙ ap (λ (rest : List ℕ). rowOf (drop at table) ∷ rowsOf rest) (drop-drop rowSize at table)
-
-pub rows-done : (table : List ℕ) (at : ℕ) → length table - at < rowSize → rowsOf (drop at table) ≡ []
-rows-done table at h = rows-end (drop at table) (let d = length-drop at table in omega arith)
-
-pub rows-count : (n : ℕ) (table : List ℕ) → length (rowsFrom n table) ≡ n
-rows-count zero table = refl
-rows-count (suc n) table = ap suc (rows-count n (drop rowSize table))
-
--- ── the test ──
 -- none of the rows has the prefix
 abbrev pub New : Prefix → List Prefix → Type 0
 New p rows = (q : Prefix) → List·Memᴰ q rows → SamePrefix p q → ⊥

@@ -5,7 +5,6 @@ use prefix::is_good;
 use prefix::matches;
 use prefix::same_prefix;
 ghost use mathlib.Core.Path.{_≡_};
-ghost use Prim.Native.Nat.{ℕ};
 ghost use Rattle.prefix.specs.Prefix.{rowOf};
 ghost use Rattle.prefix_table.specs.Table.{rowsOf};
 ghost use Rattle.prefix_table.specs.TableTests.{known, goodTable, levelIn};

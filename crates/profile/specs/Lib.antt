@@ -1,2 +1,3 @@
 pub mod Profile
+pub mod Order
 pub mod Answers

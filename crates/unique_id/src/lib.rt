@@ -5,6 +5,9 @@ use tlv_count::count_of;
 ghost use mathlib.Core.Path.{_≡_};
 ghost use Rattle.unique_id.specs.UniqueId.{toldId, idIn};
 
+// The type of the TLV.
+const UNIQUE_ID: u8 = 0x05;
+
 // Where the value starts in the area, and its length.
 pub enum UniqueId {
     Value { start: usize, size: usize },
@@ -16,7 +19,7 @@ pub enum UniqueId {
 pub fn unique_id(area: &[u8]) -> UniqueId
     ensures { λ r. ⌜ toldId r ≡ idIn (now (area .entry)) ⌝ }
 {
-    match count_of(area, 0x05) {
+    match count_of(area, UNIQUE_ID) {
         Count::Tlvs(n) => {
             if n < 1 {
                 return UniqueId::Missing;
@@ -24,7 +27,7 @@ pub fn unique_id(area: &[u8]) -> UniqueId
             if 1 < n {
                 return UniqueId::Missing;
             }
-            let found = lookup(area, 0x05, area.len());
+            let found = lookup(area, UNIQUE_ID, area.len());
             let size = found.length;
             if size < 1 {
                 return UniqueId::Missing;

@@ -1,5 +1,5 @@
 -- The loop's invariant: no bit behind the prefix is set in the bytes before the index.
-use mathlib.Core.Path.{_≡_, refl, sym, ap, ap₂, _∙_}
+use mathlib.Core.Path.{_≡_, refl, sym, ap₂, _∙_}
 use mathlib.Core.Bool.{Bool, true, false}
 use mathlib.Core.List.{List}
 use Prim.Native.Nat.{ℕ, _+_, _-_, _*_, _/_, _%_, _^_, _≤_, _<_}
@@ -11,7 +11,6 @@ use lib.Dec.{eqb}
 use lib.ListN.{getD}
 use lib.Pow.{shl-exact}
 use Rattle.exact.specs.Pick.{never}
-use Rattle.address_bits.specs.Bits.{ClearBits}
 use Rattle.address_bits.specs.BitTests.{clear-tested}
 use Rattle.address_bits.specs.BitLaws.{as-tested, power, bytes-clear, clear-end, clear-behind}
 use Rattle.address_bits.proofs.clear_bits.Statement.{statement}

@@ -1,5 +1,5 @@
 -- The loop's invariant: the bytes before the index are equal.
-use mathlib.Core.Path.{_≡_, refl, sym, ap, ap₂, _∙_}
+use mathlib.Core.Path.{_≡_, refl, sym, ap, _∙_}
 use mathlib.Core.Bool.{Bool, true, false}
 use mathlib.Core.List.{List}
 use Prim.Native.Nat.{ℕ, _-_, _/_, _%_, _^_, _<_}
@@ -10,7 +10,6 @@ use denote.Ref.{now}
 use lib.Dec.{eqb}
 use lib.ListN.{getD}
 use Rattle.exact.specs.Pick.{never}
-use Rattle.address_bits.specs.Bits.{SameBits}
 use Rattle.address_bits.specs.BitTests.{same-tested}
 use Rattle.address_bits.specs.BitLaws.{as-tested, bytes-same, same-whole, same-end}
 use Rattle.address_bits.proofs.same_bits.Statement.{statement}

@@ -1,14 +1,13 @@
 -- The numbers that are too few, the table, and then what `read` has told.
-use mathlib.Core.Path.{_≡_, refl, sym, ap, ap₂, _∙_, subst}
-use mathlib.Core.Bool.{true, false}
-use mathlib.Core.List.{List, [], _∷_}
+use mathlib.Core.Path.{_≡_, sym, ap, _∙_, subst}
+use mathlib.Core.Bool.{false}
+use mathlib.Core.List.{List}
 use Prim.Native.Nat.{ℕ, _≤_}
 use native.Mathlib.Omega.{arith}
 use borrow.Author.Needs.{needs}
 use borrow.Author.Tests.{not-true, not-false}
 use denote.Ref.{now}
 use lib.ListN.{length, take, drop, getD}
-use Rattle.lent.specs.Buffers.{toldIn}
 use Rattle.lent.specs.BufferLaws.{roomy, cramped}
 use Rattle.fields.specs.Exactness.{verdict}
 use Rattle.read_interface.specs.ReadInterface.{spoken, ReadTold}

@@ -2,8 +2,7 @@
 use mathlib.Core.Path.{_≡_, sym, ap, _∙_}
 use Rattle.record.specs.declared.Family.{Family}
 use Rattle.record.specs.KnownFamily.{toldFamily}
-use Rattle.record.specs.declared.Kind.{Kind}
-use Rattle.admission_interface.specs.AdmissionInterface.{knownKind, kindFrom}
+use Rattle.admission_interface.specs.KindFrom.{knownKind, kindFrom}
 use borrow.Author.Needs.{needs}
 use Rattle.admission_interface.proofs.kind_from.Statement.{statement}
 use Rattle.admission_interface.proofs.kind_from.Tie as tie

@@ -1,6 +1,4 @@
 -- The two families, each by its test.
-use mathlib.Core.Path.{_≡_, refl, sym, ap}
-use native.Mathlib.Omega.{arith}
 use borrow.Author.Tests.{eq-eqb, ne-eqb}
 use Rattle.prefix.proofs.bits_fit.Statement.{statement}
 use Rattle.prefix.proofs.bits_fit.Tie as tie

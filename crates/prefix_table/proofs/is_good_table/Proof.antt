@@ -1,6 +1,6 @@
 -- The loop's invariant: the rows from the place on decide.
-use mathlib.Core.Path.{_≡_, refl, sym, ap, ap₂, _∙_}
-use mathlib.Core.Bool.{Bool, true, false, not, _&&_}
+use mathlib.Core.Path.{_≡_, sym, ap, ap₂, _∙_}
+use mathlib.Core.Bool.{Bool, not, _&&_}
 use mathlib.Core.List.{List}
 use Prim.Native.Nat.{ℕ, _+_, _-_, _/_, _%_, _≤_}
 use native.Mathlib.Omega.{arith}
@@ -12,7 +12,7 @@ use Rattle.prefix.specs.Prefix.{Prefix, rowOf}
 use Rattle.prefix.specs.PrefixTests.{goodPrefix}
 use Rattle.prefix_table.specs.Table.{rowsOf}
 use Rattle.prefix_table.specs.TableTests.{known, goodRows, goodTable}
-use Rattle.prefix_table.specs.TableLaws.{rows-at, rows-done, rows-count}
+use Rattle.prefix_table.specs.RowLaws.{rows-at, rows-done, rows-count}
 use Rattle.prefix_table.proofs.is_good_table.Statement.{statement}
 use Rattle.prefix_table.proofs.is_good_table.Tie as tie
 

@@ -11,7 +11,7 @@ use Rattle.prefix.specs.Prefix.{Prefix, rowOf}
 use Rattle.prefix.specs.PrefixTests.{samePrefix}
 use Rattle.prefix_table.specs.Table.{rowsOf}
 use Rattle.prefix_table.specs.TableTests.{known}
-use Rattle.prefix_table.specs.TableLaws.{rows-at, rows-done}
+use Rattle.prefix_table.specs.RowLaws.{rows-at, rows-done}
 use Rattle.prefix_table.proofs.is_known.Statement.{statement}
 use Rattle.prefix_table.proofs.is_known.Tie as tie
 

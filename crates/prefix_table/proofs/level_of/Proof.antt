@@ -1,5 +1,5 @@
 -- The loop's invariant: the longest of the prefix so far and the rows from the place on is the longest of all.
-use mathlib.Core.Path.{_≡_, refl, sym, ap, ap₂, _∙_}
+use mathlib.Core.Path.{_≡_, refl, sym, ap, _∙_}
 use mathlib.Core.Bool.{Bool, true, false, _&&_}
 use mathlib.Core.List.{List}
 use mathlib.Core.Logic.{⊎-elim}
@@ -15,8 +15,8 @@ use Rattle.exact.specs.Pick.{pick}
 use Rattle.prefix.specs.Prefix.{Prefix, rowOf}
 use Rattle.prefix.specs.PrefixTests.{matches}
 use Rattle.prefix_table.specs.Table.{rowsOf}
-use Rattle.prefix_table.specs.TableTests.{reach, better, longestFrom, levelOf}
-use Rattle.prefix_table.specs.TableLaws.{rows-at, rows-done}
+use Rattle.prefix_table.specs.TableTests.{reach, longestFrom, levelOf}
+use Rattle.prefix_table.specs.RowLaws.{rows-at, rows-done}
 use Rattle.prefix_table.proofs.level_of.Statement.{statement}
 use Rattle.prefix_table.proofs.level_of.Tie as tie
 

@@ -1,5 +1,4 @@
 -- By the length.
-use mathlib.Core.Path.{_≡_}
 use native.Mathlib.Omega.{arith}
 use borrow.Author.Tests.{le-leb, lt-leb}
 use Rattle.profile.proofs.admit_local.Statement.{statement}

@@ -1,5 +1,5 @@
 -- By the transport.
-use mathlib.Core.Path.{_≡_, sym, ap}
+use mathlib.Core.Path.{sym, ap}
 use borrow.Author.Needs.{needs}
 use Rattle.profile.specs.Profile.{ofFamily}
 use Rattle.profile.proofs.of_family.Statement.{statement}

@@ -3,19 +3,19 @@ use mathlib.Core.Path.{_≡_, refl, sym, ap, ap₂, _∙_}
 use mathlib.Core.Bool.{Bool, true, false, _&&_}
 use mathlib.Core.List.{List}
 use mathlib.Core.Option.{Option, some, none}
-use Prim.Native.Nat.{ℕ, _+_, _≤_, _<_}
+use Prim.Native.Nat.{ℕ, _+_}
 use native.Mathlib.Omega.{arith}
 use borrow.Author.Needs.{needs}
 use borrow.Author.Tests.{eq-eqb, ne-eqb, le-leb, lt-leb, lt-ltb}
 use denote.Ref.{now}
-use lib.Dec.{eqb, leb}
+use lib.Dec.{leb}
 use lib.ListN.{length}
 use Rattle.exact.specs.Pick.{pick}
-use Rattle.tlv.specs.Tlv.{Tlv, Area, WellFormed}
+use Rattle.tlv.specs.Tlv.{Tlv, WellFormed}
 use Rattle.tlv.specs.Test.{wellFormed, well-formed-tested, ill-formed-tested}
 use Rattle.tlv.specs.Listed.{tlvsOf, tlvs-of, few}
 use Rattle.lookup.specs.declared.Examined.{Examined}
-use Rattle.lookup.specs.Lookup.{Lookup, foundAt, toldLookup, firstOf, startOf, lengthOf, lookupIn, LooksUp}
+use Rattle.lookup.specs.Lookup.{Lookup, foundAt, toldLookup, firstOf, startOf, lengthOf, LooksUp}
 use Rattle.tlv_count.specs.declared.Count.{Count}
 use Rattle.tlv_count.specs.declared.Count.the-variants.{Tlvs, IllFormed}
 use Rattle.tlv_count.specs.Count.{countOf, Counts}
