@@ -9,9 +9,11 @@ ghost use Rattle.prefix.specs.Prefix.{rowOf};
 ghost use Rattle.prefix_table.specs.Table.{rowsOf};
 ghost use Rattle.prefix_table.specs.TableTests.{known, goodTable, levelIn};
 
-pub const ROW: usize = 19;
+// Bytes of a row: family, bits, level, and sixteen of the address.
+const ROW: usize = 19;
 
-pub const MOST_ROWS: usize = 64;
+// Rows of the longest table.
+const MOST_ROWS: usize = 64;
 
 // Whether one of the rows has the prefix of this one.
 fn is_known(row: &[u8], rows: &[u8]) -> bool
