@@ -1,29 +1,26 @@
 -- The test that shows a table right, and a byte by a right table.
 use mathlib.Core.Path.{_≡_, sym, ap, ap₂, _∙_}
 use mathlib.Core.List.{List}
-use mathlib.Core.Bool.{Bool, true}
+use mathlib.Core.Bool.{true}
 use Prim.Native.Nat.{ℕ, _+_, _*_, _/_, _%_, _<_}
 use native.Mathlib.Omega.{arith}
 use lib.Arith.{digits-div, digits-mod}
-use lib.Dec.{eqb}
 use lib.ListN.{getD}
 use lib.Bits.{bitXor}
-use borrow.Author.Tests.{eqb-true}
-use Rattle.exact.specs.Below.{allBelow, each-below}
+use Rattle.exact.specs.Below.{tableBelow, entry-below}
 use Rattle.crc.specs.Crc.{bits}
 use Rattle.crc.specs.Table.{Right}
 use Rattle.crc.proofs.Linear.{halves}
 
 -- the entry at a place
-abbrev pub right : List ℕ → ℕ → Bool
-right t i = eqb (getD t i 0) (bits ((i / 16 + 1) * 4) (i % 16))
+abbrev pub rule : ℕ → ℕ
+rule i = bits ((i / 16 + 1) * 4) (i % 16)
 
-pub tested : (t : List ℕ) → allBelow (right t) 256 ≡ true → Right t
+pub tested : (t : List ℕ) → tableBelow t rule 256 ≡ true → Right t
 tested t all =
     record {
       entry = λ j k hj hk.
-          let i = j * 16 + k in
-          eqb-true (getD t i 0) (bits ((i / 16 + 1) * 4) (i % 16)) (each-below (right t) 256 i all (omega arith))
+          entry-below t rule 256 (j * 16 + k) all (omega arith)
           ∙ ap₂ (λ (x y : ℕ). bits ((x + 1) * 4) y) (digits-div j hk) (digits-mod j hk);
     }
 
