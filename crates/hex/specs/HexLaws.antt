@@ -1,6 +1,5 @@
 -- For proofs. What the value of a hex digit says of the byte.
 use mathlib.Core.Path.{_≡_, refl}
-use mathlib.Core.Logic.{_⊎_, inl, inr, ⊎-elim}
 use mathlib.Core.Bool.{Bool, true, false}
 use Prim.Native.Nat.{ℕ, _+_, _-_, _≤_, _<_}
 use native.Mathlib.Omega.{arith}
@@ -35,10 +34,8 @@ hex-most c =
 among-yes : (a z c : ℕ) → a ≤ c → c ≤ z → pick (leb a c) (leb c z) false ≡ true
 among-yes a z c h k = simp (le-leb a c h, le-leb c z k)
 
-among-no : (a z c : ℕ) → (c < a) ⊎ (z < c) → pick (leb a c) (leb c z) false ≡ false
-among-no a z c =
-    ⊎-elim (λ h. simp (lt-leb a c h))
-    (λ h. pick-by (λ (b : Bool). b ≡ false) (leb a c) (λ t. lt-leb c z h) (λ t. refl))
+among-no : (a z c : ℕ) → z < c → pick (leb a c) (leb c z) false ≡ false
+among-no a z c h = pick-by (λ (b : Bool). b ≡ false) (leb a c) (λ t. lt-leb c z h) (λ t. refl)
 
 module _ (c : ℕ) where
   pub hex-decimal : 48 ≤ c → c ≤ 57 → hexOf c ≡ c - 48
@@ -47,15 +44,11 @@ module _ (c : ℕ) where
 
   pub hex-lower : 97 ≤ c → c ≤ 102 → hexOf c ≡ c - 97 + 10
   unfolding hexOf
-  hex-lower h k = simp (among-no 48 57 c (inr (omega arith)), among-yes 97 102 c h k)
-
-  pub hex-before : c < 48 → hexOf c ≡ 16
-  unfolding hexOf
-  hex-before h = simp (among-no 48 57 c (inl h), among-no 97 102 c (inl (omega arith)), among-no 65 70 c (inl (omega arith)))
+  hex-lower h k = simp (among-no 48 57 c (omega arith), among-yes 97 102 c h k)
 
   pub hex-behind : 102 < c → hexOf c ≡ 16
   unfolding hexOf
-  hex-behind h = simp (among-no 48 57 c (inr (omega arith)), among-no 97 102 c (inr h), among-no 65 70 c (inr (omega arith)))
+  hex-behind h = simp (among-no 48 57 c (omega arith), among-no 97 102 c h, among-no 65 70 c (omega arith))
 
 pub hex-colon : hexOf 58 ≡ 16
 unfolding hexOf

@@ -7,6 +7,8 @@ use colon_part::Part;
 use colon_part::colon_part;
 use colon_part::least_behind;
 use exact::Scan;
+use hex::HEX_ENTRIES;
+use hex::hex_table;
 use hex::hex_value;
 ghost use mathlib.Core.Path.{_≡_};
 ghost use Prim.Native.Nat.{ℕ, _+_, _^_, _<_};
@@ -14,6 +16,7 @@ ghost use lib.ListN.{length};
 ghost use Rattle.exact.specs.Claim.{Claim};
 ghost use Rattle.exact.specs.Ended.{Ended};
 ghost use Rattle.exact.specs.Machine.{run};
+ghost use Rattle.hex.specs.Table.{HexTable};
 ghost use Rattle.ip6.specs.Address.{Address, Ending};
 ghost use Rattle.ip6.specs.Machine.{start, digits, behind, leastAddress, step};
 ghost use Rattle.ip6.specs.ScannedAddress.{toldAddress, Unused};
@@ -43,7 +46,8 @@ fn spread_out(groups: &mut [u16; 8], count: usize, gap: usize)
 
 // What the functions below answer: one of these numbers, and in place the length of an accepted address, how few bytes could finish it, or
 // the place of the byte that rules it out. A `Scan` would come back through memory, at each of their calls. `group` and `colon` take the slice behind a reference:
-// a slice itself would be copied into the caller's memory at each call, and the call could be no jump.
+// a slice itself would be copied into the caller's memory at each call, and the call could be no jump. The table of hex digits is lent to them all: it is filled
+// once for an address.
 const ACCEPTED: u8 = 0;
 
 const MORE: u8 = 1;
@@ -75,12 +79,13 @@ fn group(
     s: &&[u8],
     i: usize,
     end: u8,
+    table: &[u8; HEX_ENTRIES],
     groups: &mut [u16; 8],
     count: usize,
     gap: usize,
     place: &mut usize,
 ) -> u8
-    requires { ⌜ Sized (sofar (now groups) count gap) × (count < 8) × (length (now (now s)) < 2 ^ 64) ⌝ }
+    requires { ⌜ Sized (sofar (now groups) count gap) × (count < 8) × (length (now (now s)) < 2 ^ 64) × HexTable (now table) ⌝ }
     ensures { λ r. ⌜ From end (now (now (s .entry))) i (digits (gatheredOf (sofar (now (groups .entry)) count gap)) 0 0)
         (scanOf r (now (place .exit))) (now (groups .exit)) ⌝ }
 {
@@ -89,14 +94,14 @@ fn group(
     let mut n: usize = 0;
     let mut at = i;
     while at < bytes.len() {
-        let d = hex_value(bytes[at]);
+        let d = hex_value(table, bytes[at]);
         if d == 16 {
             if n == 0 {
                 *place = at;
                 return REFUSED;
             }
             groups[count] = v;
-            return colon(s, at, end, groups, count + 1, gap, place);
+            return colon(s, at, end, table, groups, count + 1, gap, place);
         }
         if n == 4 {
             *place = at;
@@ -116,12 +121,13 @@ fn colon(
     s: &&[u8],
     i: usize,
     end: u8,
+    table: &[u8; HEX_ENTRIES],
     groups: &mut [u16; 8],
     count: usize,
     gap: usize,
     place: &mut usize,
 ) -> u8
-    requires { ⌜ Sized (sofar (now groups) count gap) × (length (now (now s)) < 2 ^ 64) ⌝ }
+    requires { ⌜ Sized (sofar (now groups) count gap) × (length (now (now s)) < 2 ^ 64) × HexTable (now table) ⌝ }
     ensures { λ r. ⌜ From end (now (now (s .entry))) i (behind (gatheredOf (sofar (now (groups .entry)) count gap)))
         (scanOf r (now (place .exit))) (now (groups .exit)) ⌝ }
 {
@@ -135,13 +141,19 @@ fn colon(
             REFUSED
         }
         Part::End { at, count, gap } => finished(groups, count, gap, at, place),
-        Part::Group { at, count, gap } => group(s, at, end, groups, count, gap, place),
+        Part::Group { at, count, gap } => group(s, at, end, table, groups, count, gap, place),
     }
 }
 
 // The answer from the first byte on.
-fn begun(s: &[u8], end: u8, groups: &mut [u16; 8], place: &mut usize) -> u8
-    requires { ⌜ Sized (sofar (now groups) 0 0) ⌝ }
+fn begun(
+    s: &[u8],
+    end: u8,
+    table: &[u8; HEX_ENTRIES],
+    groups: &mut [u16; 8],
+    place: &mut usize,
+) -> u8
+    requires { ⌜ Sized (sofar (now groups) 0 0) × HexTable (now table) ⌝ }
     ensures { λ r. ⌜ From end (now (s .entry)) 0 start (scanOf r (now (place .exit))) (now (groups .exit)) ⌝ }
 {
     if s.len() == 0 {
@@ -149,9 +161,9 @@ fn begun(s: &[u8], end: u8, groups: &mut [u16; 8], place: &mut usize) -> u8
         return MORE;
     }
     if s[0] == b':' {
-        colon(&s, 0, end, groups, 0, 0, place)
+        colon(&s, 0, end, table, groups, 0, 0, place)
     } else {
-        group(&s, 0, end, groups, 0, 0, place)
+        group(&s, 0, end, table, groups, 0, 0, place)
     }
 }
 
@@ -164,7 +176,8 @@ pub fn address(s: &[u8], end: u8) -> Scanned
 {
     let mut groups = [0u16; 8];
     let mut place: usize = 0;
-    let answer = begun(s, end, &mut groups, &mut place);
+    let table = hex_table();
+    let answer = begun(s, end, &table, &mut groups, &mut place);
     if answer == ACCEPTED {
         let scan = Scan::Accepted(0, place);
         return Scanned { scan, groups };

@@ -30,23 +30,23 @@ use Rattle.hex.proofs.hex_value.Reads as hex-value-reads
 use Rattle.ip6.proofs.+colon+group.{statement}
 use Rattle.ip6.proofs.+colon+group.Tie.{close}
 
-abbrev μ-colon : Measures 4 colon-kinds.ps ℕ
+abbrev μ-colon : Measures 5 colon-kinds.ps ℕ
 μ-colon κs a = length (a .0 .now .now) - a .1 .0
 
-abbrev μ-group : Measures 4 group-kinds.ps ℕ
+abbrev μ-group : Measures 5 group-kinds.ps ℕ
 μ-group κs a = length (a .0 .now .now) - a .1 .0
 
-abbrev colon-at : ℕ → In 4 colon-kinds.ps
-colon-at t = and 4 colon-kinds.ps (is 4 colon-kinds.ps μ-colon t) colon-reads.Pre
+abbrev colon-at : ℕ → In 5 colon-kinds.ps
+colon-at t = and 5 colon-kinds.ps (is 5 colon-kinds.ps μ-colon t) colon-reads.Pre
 
-abbrev colon-below : ℕ → In 4 colon-kinds.ps
-colon-below t = and 4 colon-kinds.ps (falls 4 colon-kinds.ps _<_ μ-colon t) colon-reads.Pre
+abbrev colon-below : ℕ → In 5 colon-kinds.ps
+colon-below t = and 5 colon-kinds.ps (falls 5 colon-kinds.ps _<_ μ-colon t) colon-reads.Pre
 
-abbrev group-at : ℕ → In 4 group-kinds.ps
-group-at t = and 4 group-kinds.ps (is 4 group-kinds.ps μ-group t) group-reads.Pre
+abbrev group-at : ℕ → In 5 group-kinds.ps
+group-at t = and 5 group-kinds.ps (is 5 group-kinds.ps μ-group t) group-reads.Pre
 
-abbrev group-below : ℕ → In 4 group-kinds.ps
-group-below t = and 4 group-kinds.ps (falls 4 group-kinds.ps _<_ μ-group t) group-reads.Pre
+abbrev group-below : ℕ → In 5 group-kinds.ps
+group-below t = and 5 group-kinds.ps (falls 5 group-kinds.ps _<_ μ-group t) group-reads.Pre
 
 abbrev colon-calls : ℕ → colon-lts.Claims
 colon-calls t = (colon-part-reads.Asked, colon-part-reads.Learnt, finished-reads.Asked, finished-reads.Learnt, group-below t, group-reads.Post)
@@ -56,13 +56,13 @@ group-calls t = (hex-value-reads.Asked, hex-value-reads.Learnt, colon-below t, c
 
 -- what is answered from here answers from where the group begins
 abbrev group-Inv-loop : group-lts.InvT-loop
-group-Inv-loop s i end groups₀ count gaps place₀ bytes v₀ n₀ at₀ groups place v n at =
+group-Inv-loop s i end table groups₀ count gaps place₀ bytes v₀ n₀ at₀ groups place v n at =
     (at ≡ i + n) × (n ≤ 4) × (v < 16 ^ n) × Sized (sofar groups count gaps)
     × ((r : Scan) (g : List ℕ) → From end bytes at (digits (gatheredOf (sofar groups count gaps)) n v) r g
     → From end bytes i (digits (gatheredOf (sofar groups₀ count gaps)) 0 0) r g)
 
 abbrev group-μ-loop : group-lts.MeasureT-loop
-group-μ-loop s i end groups₀ count gaps place₀ bytes v₀ n₀ at₀ groups place v n at = length bytes - at
+group-μ-loop s i end table groups₀ count gaps place₀ bytes v₀ n₀ at₀ groups place v n at = length bytes - at
 
 module _ (t : ℕ) where
   -- ── colon ──
@@ -94,7 +94,7 @@ module _ (t : ℕ) where
   colon-group-requires c κs =
       let at = c .before .before .before .before .before in
       let l = leads at _ (c .before .before .before .at2 .given .1) in
-      (let z = start at .pre .0 in let low = l .2 in let h = l .3 in omega arith, (l .0, l .1, fits at))
+      (let z = start at .pre .0 in let low = l .2 in let h = l .3 in omega arith, (l .0, l .1, fits at, start at .pre .1 .2))
 
   colon-returns : colon-lts.Need-returns (colon-calls t) (colon-at t) colon-reads.Post
   colon-returns c = leads (c .before .before .before) _ (c .before .least .given .1) _
@@ -129,13 +129,16 @@ module _ (t : ℕ) where
     abbrev inside : head .loop .at < length (begin .args .s .now .now)
     inside = c .before .before .loop-test .taken
 
+    valued : c .hex-value .result ≡ hexOf (getD (begin .args .s .now .now) (head .loop .at) 0)
+    valued = c .hex-value .ensures ∙ begin .pre .1 .3 .value _
+
     is-none : c .hex-value .result ≡ 16 → hexOf (getD (begin .args .s .now .now) (head .loop .at) 0) ≡ 16
-    is-none e = sym (c .hex-value .ensures) ∙ e
+    is-none e = sym valued ∙ e
 
     is-digit : (c .hex-value .result ≡ 16 → ⊥) → hexOf (getD (begin .args .s .now .now) (head .loop .at) 0) < 16
     is-digit n =
         let a = hex-most (getD (begin .args .s .now .now) (head .loop .at) 0) in
-        let e = c .hex-value .ensures in
+        let e = valued in
         omega arith
 
     below : (head .loop .n ≡ 4 → ⊥) → head .loop .n < 4
@@ -160,7 +163,7 @@ module _ (t : ℕ) where
       let at = c .before .before .before .before in
       let pre = begin at .pre in (
         let z = pre .0 in let a = head at .loop .inv .0 in let b = c .before .before .if2 .left in let d = inside at in omega arith,
-        (push-sized _ (head at .loop .inv .3) (pre .1 .1) _, pre .1 .2),
+        (push-sized _ (head at .loop .inv .3) (pre .1 .1) _, pre .1 .2, pre .1 .3),
       )
 
   group-returns-2 : group-lts.Need-returns-2 (group-calls t) (group-at t) group-reads.Post group-Inv-loop group-μ-loop
@@ -185,7 +188,7 @@ module _ (t : ℕ) where
   group-cast-v c =
       let at = c .before .before in
       let a = is-digit at (c .before .if1 .left) in
-      let e = at .hex-value .ensures in
+      let e = valued at in
       omega arith
 
   group-add-v : group-lts.Need-add-v (group-calls t) (group-at t) group-reads.Post group-Inv-loop group-μ-loop
@@ -193,7 +196,7 @@ module _ (t : ℕ) where
       let at = c .before .before in
       let a = digits-fit _ _ (head at .loop .inv .2) (below at (c .if3 .left)) in
       let b = is-digit at (c .before .if1 .left) in
-      let e = at .hex-value .ensures in
+      let e = valued at in
       omega arith
 
   group-add-n : group-lts.Need-add-n (group-calls t) (group-at t) group-reads.Post group-Inv-loop group-μ-loop
@@ -210,7 +213,7 @@ module _ (t : ℕ) where
       let at = c .before .before in
       let few = below at (c .if3 .left) in
       let digit = is-digit at (c .before .if1 .left) in
-      let value = at .hex-value .ensures in (
+      let value = valued at in (
         omega arith,
         omega arith,
         digits-more _ _ _ (head at .loop .inv .2) (omega arith),

@@ -43,4 +43,4 @@ returns-3 : tie.Need-returns-3
 returns-3 c = answered _ _ (whole (rw (refused-at _ _ (c .before .if1 .left) (c .if2 .left)) at (c .before .before .begun .ensures))) refl
 
 pub address-spec : {M : Type 1} → statement M
-address-spec = tie.close (tie.spec (λ c κs. search needs) returns returns-2 returns-3)
+address-spec = tie.close (tie.spec (λ c κs. search needs) (λ c κs. search needs) returns returns-2 returns-3)
