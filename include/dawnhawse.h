@@ -18,7 +18,7 @@
  *   target    x86-64 Linux, the System V calling convention, position-independent code, no instruction beyond SSE2.
  *
  *   function                     stack   time grows with
- *   dawnhawse_read                 576   version 1: at most 107 bytes; version 2: the TLVs among the bytes received, each once
+ *   dawnhawse_read                 704   version 1: at most 107 bytes; version 2: the TLVs among the bytes received, each once
  *   dawnhawse_read_checked        1792   the same; of a whole header also its TLVs, each up to three times, and its bytes, each once
  *   dawnhawse_next                  64   nothing: one TLV is looked at
  *   dawnhawse_step                  64   the TLVs from the place to the end of the area, each looked at once
@@ -33,7 +33,7 @@
  *   dawnhawse_forward             1408   nothing: at most 222 bytes are read and 223 written
  *   dawnhawse_back                1408   nothing: at most 223 bytes are read and 222 written
  *   dawnhawse_crc32c              1152   the bytes, each looked at once
- *   dawnhawse_doorman              896   the pairs of the table's rows, at most 2016; then as dawnhawse_read, TLVs up to five times
+ *   dawnhawse_doorman              960   the pairs of the table's rows, at most 2016; then as dawnhawse_read, TLVs up to five times
  *
  * Stack is a bound in bytes, the return address among them; tests/stack.c measures each function on a painted stack.
  */
@@ -44,10 +44,10 @@
 #include <stdint.h>
 
 /* The release of the library; README says what each of its numbers counts. */
-#define DAWNHAWSE_RELEASE "0.6.0"
+#define DAWNHAWSE_RELEASE "0.6.1"
 #define DAWNHAWSE_RELEASE_MAJOR 0
 #define DAWNHAWSE_RELEASE_MINOR 6
-#define DAWNHAWSE_RELEASE_PATCH 0
+#define DAWNHAWSE_RELEASE_PATCH 1
 
 #ifdef __cplusplus
 extern "C" {
