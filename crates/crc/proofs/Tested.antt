@@ -13,7 +13,7 @@ use Rattle.crc.specs.Table.{Right}
 use Rattle.crc.proofs.Linear.{halves}
 
 -- the entry at a place
-abbrev pub rule : ℕ → ℕ
+abbrev rule : ℕ → ℕ
 rule i = bits ((i / 16 + 1) * 4) (i % 16)
 
 pub tested : (t : List ℕ) → tableBelow t rule 256 ≡ true → Right t

@@ -14,7 +14,7 @@ pub fn hex_table() -> [u8; HEX_ENTRIES]
     VALUES
 }
 
-// The value of a hex digit by the table, in either case; 16 for any other byte.
+// What the table has for a byte, and 16 behind its end. By the table of `hex_table` that is the value of a hex digit, in either case, and 16 for any other byte.
 pub fn hex_value(table: &[u8; HEX_ENTRIES], c: u8) -> u8
     ensures { λ r. ⌜ r ≡ looked (now (table .entry)) c ⌝ }
 {

@@ -1,6 +1,6 @@
 // The table: an entry for each byte from 0 to "f", its value as a hex digit, or 16.
 
-// The entries.
+// How many entries it has.
 pub const HEX_ENTRIES: usize = 103;
 
 pub const VALUES: [u8; HEX_ENTRIES] = [
