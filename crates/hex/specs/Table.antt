@@ -13,6 +13,6 @@ use Rattle.hex.specs.Hex.{hexOf}
 abbrev pub looked : List ℕ → ℕ → ℕ
 looked t c = pick (leb c (code "f")) (getD t c 0) 16
 
--- the rule: "Same answers for all 256 bytes"
+-- the rule: a look-up gives the value of a hex digit, "Same answers for all 256 bytes"
 pub record HexTable (t : List ℕ) : Type 0 where
   pub value : (c : ℕ) → looked t c ≡ hexOf c

@@ -1,4 +1,4 @@
--- The test of the table passes at each byte, which is computed.
+-- The test of the table passes at each of its entries, which is computed.
 use mathlib.Core.Path.{refl}
 use Rattle.hex.specs.Hex.{hexOf}
 use Rattle.hex.proofs.Tested.{tested}
