@@ -14,7 +14,7 @@ use Rattle.exact.specs.Pick.{pick, pick-by}
 use Rattle.exact.specs.Network.{network}
 use Rattle.lent.specs.Same.{same}
 use Rattle.tlv.specs.Tlv.{Tlv, tlvBytes, written, Proper, Area, WellFormed}
-use Rattle.tlv.specs.Laws.{written-append}
+use Rattle.tlv.specs.Laws.{written-append, proper-behind}
 use Rattle.tlv.specs.Test.{wellFormed, well-formed-tested}
 use Rattle.tlv.specs.Listed.{tlvsOf, tlvs-of, few}
 use Rattle.tlv.specs.Heads.{head-rest}
@@ -133,10 +133,6 @@ module _ (area : List ℕ) (r : Examined) (looks : LooksUp area 0x03 (length are
       (λ e. refl)
 
 -- ── what the first says ──
-proper-behind : (a b : List Tlv) → Proper (a ++ b) → Proper b
-proper-behind [] b p = p
-proper-behind (t ∷ a) b p = proper-behind a b (p .3)
-
 module _ (header area : List ℕ) (start size : ℕ) (f : FirstAt header area start size) where
   abbrev before : List Tlv
   before = f .first .before

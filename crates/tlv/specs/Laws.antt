@@ -1,5 +1,5 @@
--- Laws of TLV areas: an area has one TLV list, one TLV is an area, joined lists are written one behind the other and fill joined areas, and an area is
--- of bytes.
+-- Laws of TLV areas: an area has one TLV list, one TLV is an area, joined lists are written one behind the other and fill joined areas, what stands behind
+-- an area in a longer one is an area, and an area is of bytes.
 use mathlib.Core.Path.{_≡_, refl, sym, ap, ap₂, _∙_, subst}
 use mathlib.Core.List.{List, [], _∷_, _++_, append-nil, append-assoc}
 use Prim.Native.Nat.{ℕ, _<_}
@@ -21,17 +21,25 @@ same-parts a b c d n e = (
 abbrev pub byte : ℕ → List ℕ → ℕ
 byte i f = getD f i 0
 
-written-one : (a b : List Tlv) → written a ≡ written b → a ≡ b
-written-one [] [] e = refl
-written-one [] (u ∷ b) e = let z : _≡_ {A = ℕ} 0 1 = cc in absurd (omega arith)
-written-one (t ∷ a) [] e = let z : _≡_ {A = ℕ} 0 1 = cc in absurd (omega arith)
-written-one (t ∷ a) (u ∷ b) e =
-    let type : t .type ≡ u .type = ap (byte 0) e in
+-- TLVs that begin with the bytes of some TLVs begin with those TLVs, and the bytes left are those of the others
+written-behind : (a c : List Tlv) (g : List ℕ) → written a ++ g ≡ written c → (b : List Tlv) × (c ≡ a ++ b) × (g ≡ written b)
+written-behind [] c g e = (c, refl, e)
+written-behind (t ∷ a) [] g e = let z : _≡_ {A = ℕ} 0 1 = cc in absurd (omega arith)
+written-behind (t ∷ a) (u ∷ c) g e =
+    let type : u .type ≡ t .type = sym (ap (byte 0) e) in
     let high = ap (byte 1) e in
     let low = ap (byte 2) e in
-    let parts = same-parts (t .value) (written a) (u .value) (written b) (omega arith) (ap (drop 3) e) in
-    let tail : a ≡ b = written-one a b (parts .1) in
-    λ i. record { type = type i; value = parts .0 i } ∷ tail i
+    let all : t .value ++ (written a ++ g) ≡ u .value ++ written c = sym (append-assoc (t .value) (written a) g) ∙ ap (drop 3) e in
+    let parts = same-parts (t .value) (written a ++ g) (u .value) (written c) (omega arith) all in
+    let rest = written-behind a c g (parts .1) in
+    (rest .0, (λ i. record { type = type i; value = sym (parts .0) i } ∷ rest .1 i), rest .2)
+
+written-one : (a b : List Tlv) → written a ≡ written b → a ≡ b
+written-one a b e = let r = written-behind a b [] (append-nil (written a) ∙ e) in by (r .0) (r .1) (r .2)
+  where
+    by : (rest : List Tlv) → b ≡ a ++ rest → [] ≡ written rest → a ≡ b
+    by [] s n = sym (s ∙ append-nil a)
+    by (t ∷ rest) s n = let z : _≡_ {A = ℕ} 0 1 = cc in absurd (omega arith)
 
 -- the TLV list is a function of the area
 pub area-one : (f : List ℕ) (a b : List Tlv) → Area f a → Area f b → a ≡ b
@@ -50,9 +58,19 @@ proper-append : (a b : List Tlv) → Proper a → Proper b → Proper (a ++ b)
 proper-append [] b p q = q
 proper-append (t ∷ a) b p q = (p .0, p .1, p .2, proper-append a b (p .3) q)
 
+pub proper-behind : (a b : List Tlv) → Proper (a ++ b) → Proper b
+proper-behind [] b p = p
+proper-behind (t ∷ a) b p = proper-behind a b (p .3)
+
 -- an area behind another
 pub area-append : (f g : List ℕ) (a b : List Tlv) → Area f a → Area g b → Area (f ++ g) (a ++ b)
 area-append f g a b x y = (ap₂ _++_ (x .0) (y .0) ∙ sym (written-append a b), proper-append a b (x .1) (y .1))
+
+-- what stands behind an area in a longer one is an area, and its TLVs are the rest
+pub area-behind : (f g : List ℕ) (a c : List Tlv) → Area f a → Area (f ++ g) c → (b : List Tlv) × (c ≡ a ++ b) × Area g b
+area-behind f g a c x y =
+    let r = written-behind a c g (ap (λ (l : List ℕ). l ++ g) (sym (x .0)) ∙ y .0) in
+    (r .0, r .1, (r .2, proper-behind a (r .0) (subst Proper (r .1) (y .1))))
 
 written-bytes : (a : List Tlv) → Proper a → AllBytes (written a)
 written-bytes [] p = tt
