@@ -20,7 +20,7 @@ use Rattle.tlv.specs.Listed.{tlvsOf, tlvs-of, few}
 use Rattle.tlv.specs.Heads.{head-rest}
 use Rattle.crc.specs.Crc.{checksum, stored, cleared}
 use Rattle.lookup.specs.declared.Examined.{Examined}
-use Rattle.lookup.specs.Lookup.{found, absent, Lookup, foundAt, without, toldFinding, toldLookup, firstOf, lookupIn, LooksUp}
+use Rattle.lookup.specs.Lookup.{found, absent, Lookup, foundAt, without, toldFinding, toldLookup, firstOf, lookupIn, illFormed, lookup-listed, LooksUp}
 use Rattle.lookup.specs.Laws.{first-counts}
 use Rattle.tlv_count.specs.Count.{countOf, noneTest}
 use Rattle.record.specs.declared.Checksum.{Checksum}
@@ -116,12 +116,15 @@ module _ (area : List ℕ) (r : Examined) (looks : LooksUp area 0x03 (length are
       by : (b : Bool) → wellFormed area ≡ b → WellFormed area
       by true e = well-formed-tested area .0 e
       by false e =
-          let told = looks .refuses (λ w. let t = well-formed-tested area .1 w in let z : _≡_ {A = ℕ} 0 1 = cc in omega arith) in
+          let told : toldLookup r ≡ illFormed = rw e at (looks .answers) in
           let other = sym is ∙ ap (λ (l : Lookup). l .outcome) told in
           let z : _≡_ {A = ℕ} 0 1 = cc in absurd (omega arith)
 
+  listed-here : (w : WellFormed area) → toldLookup r ≡ lookupIn (w .0) 0x03 (length area)
+  listed-here w = looks .answers ∙ lookup-listed area 0x03 (length area) (w .0) (w .1)
+
   pub found-here : LastPart header area → toldFinding (r .answer) ≡ found → FirstAt header area (r .start) (r .length)
-  found-here last is = let w = fills is in found-first area (w .0) (w .1) r (looks .listed (w .0) (w .1)) header last is
+  found-here last is = let w = fills is in found-first area (w .0) (w .1) r (listed-here w) header last is
 
   pub filled-here : WellFormed area → stateIn header (tlvsOf area) ≡ here
   filled-here w = ap (λ (b : Bool). pick b (stateIn header (tlvsOf area)) (some Absent)) (sym (well-formed-tested area .1 w))
@@ -129,7 +132,7 @@ module _ (area : List ℕ) (r : Examined) (looks : LooksUp area 0x03 (length are
   pub absent-here : (toldFinding (r .answer) ≡ found → ⊥) → some Absent ≡ here
   absent-here other =
       pick-by (λ (x : Option Checksum). some Absent ≡ x) (wellFormed area)
-      (λ e. let w = well-formed-tested area .0 e in sym (absent-state area (w .0) (w .1) r (looks .listed (w .0) (w .1)) header other))
+      (λ e. let w = well-formed-tested area .0 e in sym (absent-state area (w .0) (w .1) r (listed-here w) header other))
       (λ e. refl)
 
 -- ── what the first says ──

@@ -5,8 +5,7 @@ use Prim.Native.Nat.{ℕ, suc, _+_, _-_, _≤_, _<_}
 use native.Mathlib.Omega.{arith}
 use lib.ListN.{length, getD, drop}
 use Rattle.tlv.specs.Tlv.{Tlv, Area, WellFormed}
-use Rattle.tlv.specs.Laws.{area-one}
-use Rattle.lookup.specs.Lookup.{absent, gaveUp, toldLookup, foundAt, without, lookupIn, LooksUp}
+use Rattle.lookup.specs.Lookup.{absent, gaveUp, toldLookup, foundAt, without, lookupIn, lookup-listed, lookup-refused, LooksUp}
 use Rattle.tlv.specs.Heads.{sizeAt, size-room, head-type, head-size, head-rest, none-left, some-left}
 use Rattle.lookup.specs.Steps.{past, past-start, past-past, lookup-none, lookup-out, lookup-found, lookup-past}
 use Rattle.lookup.specs.declared.Answer.{Answer}
@@ -50,15 +49,10 @@ module _ (s : List ℕ) (wanted limit : ℕ) where
       }
 
   answers : (all : List Tlv) (r : Examined) → Area s all → toldLookup r ≡ lookupIn all wanted limit → r .count ≤ limit → LooksUp s wanted limit r
-  answers all r a e h =
-      record {
-        listed = λ tlvs b. e ∙ ap (λ (x : List Tlv). lookupIn x wanted limit) (area-one s all tlvs a b);
-        refuses = λ not. absurd (not (all, a));
-        within = h;
-      }
+  answers all r a e h = record { answers = e ∙ sym (lookup-listed s wanted limit all a); within = h }
 
   pub left-ill : (WellFormed s → ⊥) → LooksUp s wanted limit (examined IllFormed 0 0 0)
-  left-ill not = record { listed = λ tlvs a. absurd (not (tlvs, a)); refuses = λ n. refl; within = omega arith }
+  left-ill not = record { answers = sym (lookup-refused s wanted limit not); within = omega arith }
 
   module _ (at count : ℕ) (l : Left s wanted limit at count) where
     pub left-done : length s ≤ at → LooksUp s wanted limit (examined Absent count 0 0)

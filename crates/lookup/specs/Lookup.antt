@@ -6,6 +6,8 @@ use lib.Dec.{eqb, ltb, leb}
 use lib.ListN.{length, take}
 use Rattle.exact.specs.Pick.{pick}
 use Rattle.tlv.specs.Tlv.{Tlv, written, Area, WellFormed}
+use Rattle.tlv.specs.Listed.{tlvsOf, tlvs-of}
+use Rattle.tlv.specs.Test.{wellFormed, well-formed-tested, ill-formed-tested}
 use Rattle.lookup.specs.declared.Answer.{Answer}
 use Rattle.lookup.specs.declared.Answer.the-variants.{Found, Absent, GaveUp, IllFormed}
 use Rattle.lookup.specs.declared.Examined.{Examined}
@@ -72,8 +74,19 @@ lookupIn tlvs wanted limit = lookupBy (firstOf wanted tlvs) tlvs (length tlvs) l
 abbrev pub illFormed : Lookup
 illFormed = without (refused 12) 0
 
--- what a lookup answers for every area, and that it "never examines more than the limit"
+-- what a lookup answers for every area
+abbrev pub lookupOf : List ℕ → ℕ → ℕ → Lookup
+lookupOf area wanted limit = pick (wellFormed area) (lookupIn (tlvsOf area) wanted limit) illFormed
+
+-- that is, by the TLVs that fill the area; where none do, 12
+module _ (area : List ℕ) (wanted limit : ℕ) where
+  pub lookup-listed : (tlvs : List Tlv) → Area area tlvs → lookupOf area wanted limit ≡ lookupIn tlvs wanted limit
+  lookup-listed tlvs a = rw (well-formed-tested area .1 (tlvs, a), tlvs-of area tlvs a)
+
+  pub lookup-refused : (WellFormed area → ⊥) → lookupOf area wanted limit ≡ illFormed
+  lookup-refused not = rw (ill-formed-tested area not)
+
+-- what `lookup` promises: that answer, and that it "never examines more than the limit"
 pub record LooksUp (area : List ℕ) (wanted limit : ℕ) (r : Examined) : Type 0 where
-  pub listed : (tlvs : List Tlv) → Area area tlvs → toldLookup r ≡ lookupIn tlvs wanted limit
-  pub refuses : (WellFormed area → ⊥) → toldLookup r ≡ illFormed
+  pub answers : toldLookup r ≡ lookupOf area wanted limit
   pub within : r .count ≤ limit

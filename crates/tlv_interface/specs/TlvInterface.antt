@@ -5,8 +5,7 @@ use Prim.Native.Nat.{ℕ}
 use lib.Dec.{leb}
 use lib.ListN.{length}
 use Rattle.exact.specs.Pick.{pick}
-use Rattle.lookup.specs.declared.Examined.{Examined}
-use Rattle.lookup.specs.Lookup.{Lookup, toldLookup, LooksUp}
+use Rattle.lookup.specs.Lookup.{Lookup, lookupOf}
 use Rattle.tlv_step.specs.Step.{Step, shown, end, refused, startOf, lengthOf, placeAfter}
 use Rattle.numbers.specs.declared.Told.{Told}
 use Rattle.lent.specs.Buffers.{toldIn}
@@ -18,10 +17,8 @@ lookupNumbers wanted x = x .count ∷ wanted ∷ x .start ∷ x .length ∷ []
 
 -- what `dawnhawse_lookup` answers and leaves: with too little room 14, and the numbers as they were
 pub record LookupTold (area : List ℕ) (wanted limit : ℕ) (numbers : List ℕ) (answer : ℕ) (after : List ℕ) : Type 0 where
-  pub examined : Examined
-  pub looks : LooksUp area wanted limit examined
-  pub answers : answer ≡ pick (leb numbersSize (length numbers)) (lookupNumber (toldLookup examined .outcome)) 14
-  pub left : after ≡ toldIn numbersSize (lookupNumbers wanted (toldLookup examined)) numbers
+  pub answers : answer ≡ pick (leb numbersSize (length numbers)) (lookupNumber (lookupOf area wanted limit .outcome)) 14
+  pub left : after ≡ toldIn numbersSize (lookupNumbers wanted (lookupOf area wanted limit)) numbers
 
 -- "the step answers 12"; 0 is a TLV shown, 252 the end
 abbrev pub stepNumber : Step → ℕ

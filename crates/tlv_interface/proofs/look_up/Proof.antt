@@ -1,8 +1,11 @@
 -- `lookup` ensures what is examined, and it is told where there is room.
-use mathlib.Core.Path.{_∙_}
+use mathlib.Core.Path.{ap, _∙_}
 use native.Mathlib.Omega.{arith}
 use denote.Ref.{now}
-use Rattle.numbers.specs.Numbers.{numbersSize}
+use Rattle.numbers.specs.Numbers.{numbersSize, lookupNumber}
+use Rattle.lookup.specs.Lookup.{Lookup}
+use Rattle.tlv_interface.specs.TlvInterface.{lookupNumbers}
+use Rattle.lent.specs.Buffers.{toldIn}
 use Rattle.lent.specs.BufferLaws.{roomy, cramped}
 use borrow.Author.Needs.{needs}
 use Rattle.tlv_interface.proofs.look_up.Statement.{statement}
@@ -13,8 +16,6 @@ returns c =
     let looked = c .before in
     let numbers = now (looked .before .before .before .args .numbers) in
     record {
-      examined = looked .lookup .result;
-      looks = looked .lookup .ensures;
       answers = cramped numbersSize numbers _ 14 (omega arith);
       left = cramped numbersSize numbers _ numbers (omega arith);
     }
@@ -25,10 +26,13 @@ returns-2 c =
     let looked = put .before .before .before in
     let numbers = now (looked .before .before .before .args .numbers) in
     record {
-      examined = looked .lookup .result;
-      looks = looked .lookup .ensures;
-      answers = c .lookup-number .ensures ∙ roomy numbersSize numbers _ 14 (omega arith);
-      left = put .put-numbers .ensures;
+      answers =
+          c .lookup-number .ensures
+          ∙ ap (λ (l : Lookup). lookupNumber (l .outcome)) (looked .lookup .ensures .answers)
+          ∙ roomy numbersSize numbers _ 14 (omega arith);
+      left =
+          put .put-numbers .ensures
+          ∙ ap (λ (l : Lookup). toldIn numbersSize (lookupNumbers (looked .before .before .before .args .wanted) l) numbers) (looked .lookup .ensures .answers);
     }
 
 pub look-up-spec : {M : Type 1} → statement M

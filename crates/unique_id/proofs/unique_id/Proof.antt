@@ -15,7 +15,7 @@ use Rattle.tlv.specs.Tlv.{Tlv, WellFormed}
 use Rattle.tlv.specs.Test.{wellFormed, well-formed-tested, ill-formed-tested}
 use Rattle.tlv.specs.Listed.{tlvsOf, tlvs-of, few}
 use Rattle.lookup.specs.declared.Examined.{Examined}
-use Rattle.lookup.specs.Lookup.{Lookup, foundAt, toldLookup, firstOf, startOf, lengthOf, LooksUp}
+use Rattle.lookup.specs.Lookup.{Lookup, foundAt, toldLookup, firstOf, startOf, lengthOf, lookup-listed, LooksUp}
 use Rattle.tlv_count.specs.declared.Count.{Count}
 use Rattle.tlv_count.specs.declared.Count.the-variants.{Tlvs, IllFormed}
 use Rattle.tlv_count.specs.Count.{countOf, Counts}
@@ -67,7 +67,8 @@ module _ (area : List ℕ) where
         let h = first-below 0x05 tlvs (first-in 0x05 tlvs (omega arith)) in
         let n = few tlvs in
         let e = ap length (w .1 .0) in
-        looks .listed tlvs (w .1)
+        looks .answers
+        ∙ lookup-listed area 0x05 (length area) tlvs (w .1)
         ∙ rw (lt-ltb (firstOf 0x05 tlvs) (length tlvs) h, lt-ltb (firstOf 0x05 tlvs) (length area) (omega arith))
 
     start-is : r .start ≡ firstValue tlvs .start
