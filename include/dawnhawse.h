@@ -310,6 +310,10 @@ uint32_t dawnhawse_step(const uint8_t *area, size_t area_len, size_t at, uint64_
  *   DAWNHAWSE_ABSENT       there is none; numbers: TLVs examined, the type, 0, 0
  *   DAWNHAWSE_GAVE_UP      none is among the first limit TLVs, and there are more; numbers: limit, the type, 0, 0
  *   DAWNHAWSE_ILL_FORMED   TLVs do not fill the area; numbers: 0, the type, 0, 0
+ *
+ * Two well-formed areas, one behind the other, are an area. The answer in it is the one in the first area, unless that is
+ * DAWNHAWSE_ABSENT: then it is the one in the second area for the limit less the TLVs examined in the first, with the counts added
+ * and a found start moved by the first area's length.
  */
 uint32_t dawnhawse_lookup(const uint8_t *area, size_t area_len, uint8_t wanted, size_t limit, uint64_t *numbers,
                           size_t numbers_len);

@@ -4,9 +4,9 @@ use crate::{Left, BYTE, NUMBER};
 use second::{Admission, Answer, Kind, Record, Step, StoredVersion, Verdict};
 
 const NO_ROOM: u32 = 14;
-const END: u32 = 252;
-const ABSENT: u32 = 253;
-const GAVE_UP: u32 = 254;
+pub const END: u32 = 252;
+pub const ABSENT: u32 = 253;
+pub const GAVE_UP: u32 = 254;
 pub const MORE: u32 = 255;
 
 /// What is left where nothing is written.

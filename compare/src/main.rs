@@ -4,7 +4,7 @@ mod programs;
 
 use compare::inputs::{self, Group};
 use compare::random::Random;
-use compare::{admission, checked_reading, checked_writing, crc32c, hex, interface, stored, whole};
+use compare::{admission, checked_reading, checked_writing, crc32c, hex, interface, joining, stored, whole};
 use std::path::{Path, PathBuf};
 
 const SEED: u64 = 0x0D0A_0D0A_000D_0A51;
@@ -25,6 +25,9 @@ fn main() {
         whole::walks(&headers),
         interface::steps(&mut random, GENERATED / 20),
         interface::lookups(&mut random, GENERATED / 20),
+        joining::cuts(),
+        joining::long(),
+        joining::generated(&mut random, GENERATED / 100),
         interface::lines(&mut random, GENERATED / 40),
         interface::blocks(&mut random, GENERATED / 40),
         stored::records(&mut random, GENERATED / 20),

@@ -1,6 +1,6 @@
 //! A libFuzzer target: the C library and the second program on the same input. A difference ends the run.
 use compare::connection::SIZE;
-use compare::{checksum_headers, expected, hex, library, same, STORED_VERSIONS};
+use compare::{checksum_headers, expected, hex, joining, library, same, STORED_VERSIONS};
 
 /// # Safety
 /// As libFuzzer calls it: size bytes are lent behind data.
@@ -15,8 +15,8 @@ pub unsafe extern "C" fn LLVMFuzzerTestOneInput(data: *const u8, size: usize) ->
     0
 }
 
-/// The first byte chooses the function (its low five bits) and how many numbers are lent, the next two are a room, a place, a limit, or how many
-/// rows and further bytes the input begins with, and the rest is the input.
+/// The first byte chooses the function (its low five bits) and how many numbers are lent, the next two are a room, a place, a limit, a type and
+/// how many bytes the first of two areas has, or how many rows and further bytes the input begins with, and the rest is the input.
 fn compare(input: &[u8]) -> Result<(), String> {
     let [choice, high, low, input @ ..] = input else { return Ok(()) };
     let numbers = match choice >> 5 {
@@ -26,6 +26,7 @@ fn compare(input: &[u8]) -> Result<(), String> {
     let number = usize::from(u16::from_be_bytes([*high, *low]));
     let (connection, area) = input.split_at(input.len().min(SIZE));
     let (table, bytes) = input.split_at(input.len().min(19 * usize::from(*high) + usize::from(*low)));
+    let (first, second) = input.split_at(input.len().min(usize::from(*low)));
     let [one, two] = STORED_VERSIONS;
     let (here, there) = match choice & 31 {
         0 => (library::read(input, numbers, SIZE + 3), expected::read(input, numbers, SIZE + 3)),
@@ -48,6 +49,8 @@ fn compare(input: &[u8]) -> Result<(), String> {
             let input = &checksum_headers::righted(input);
             (library::read_checked(input, numbers, SIZE + 3), expected::read_checked(input, numbers, SIZE + 3))
         }
+        // The limit is a small one.
+        17 => joining::lookups(first, second, *high, usize::from(choice >> 5)),
         _ => (library::doorman(table, bytes, numbers), expected::doorman(table, bytes, numbers)),
     };
     same(&here, &there, || format!("function {}, {number}, {numbers} numbers, {}", choice & 31, hex(input)))

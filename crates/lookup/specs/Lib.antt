@@ -1,3 +1,4 @@
 pub mod Lookup
-pub mod Steps
+pub mod JoinedLists
+pub mod Joining
 pub mod Laws

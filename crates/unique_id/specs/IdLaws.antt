@@ -14,6 +14,7 @@ use Rattle.tlv.specs.Laws.{written-append}
 use Rattle.tlv.specs.Test.{wellFormed, well-formed-tested}
 use Rattle.tlv.specs.Listed.{tlvsOf, tlvs-of}
 use Rattle.lookup.specs.Lookup.{firstOf, startOf, lengthOf}
+use Rattle.lookup.specs.JoinedLists.{length-second}
 use Rattle.lookup.specs.Laws.{found-there}
 use Rattle.tlv_count.specs.Count.{countOf}
 use Rattle.unique_id.specs.UniqueId.{firstValue, hasId, identified, idOf}
@@ -47,10 +48,6 @@ module _ (type : ℕ) where
             index = rw e (ap suc (f .index));
           }
 
-  length-behind : (front : List Tlv) (t : Tlv) (rest : List Tlv) → lengthOf (length front) (front ++ t ∷ rest) ≡ length (t .value)
-  length-behind [] t rest = refl
-  length-behind (u ∷ front) t rest = length-behind front t rest
-
   module _ (tlvs : List Tlv) (f : FirstIn type tlvs) where
     pub first-below : firstOf type tlvs < length tlvs
     first-below =
@@ -62,7 +59,9 @@ module _ (type : ℕ) where
         ∙ ap (λ (l : List Tlv). length (written l) + 3) (take-at (f .front) (f .tlv ∷ f .rest) (length (f .front)) refl)
 
     pub first-size : lengthOf (firstOf type tlvs) tlvs ≡ length (f .tlv .value)
-    first-size = ap₂ lengthOf (f .index) (f .split) ∙ length-behind (f .front) (f .tlv) (f .rest)
+    first-size =
+        let n : length (f .front) ≡ length (f .front) + 0 = omega arith in
+        ap₂ lengthOf (f .index ∙ n) (f .split) ∙ length-second 0 (f .front) (f .tlv ∷ f .rest)
 
 -- ── the unique ID ──
 module _ (tlvs : List Tlv) (has : hasId tlvs ≡ true) where

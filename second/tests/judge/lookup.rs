@@ -116,6 +116,28 @@ fn an_ill_formed_area_is_refused_with_count_0() {
     }
 }
 
+/// Document 02, K13: AREA is the join of its first two TLVs and its last two, of nine bytes each.
+#[test]
+fn lookup_in_a_join_is_lookup_in_the_two() {
+    let (first, second) = AREA.split_at(9);
+    for (kind, limit, in_first, in_second, in_join) in [
+        // Found in the first: the second is not asked.
+        (5, 4, found(2, 8, 1), found(1, 3, 0), found(2, 8, 1)),
+        // Given up there: so in the join.
+        (4, 1, gave_up(1), gave_up(0), gave_up(1)),
+        // Absent, count 2: two less for the second, 2 + 2 examined, 9 + 6 the start.
+        (4, 4, absent(2), found(2, 6, 3), found(4, 15, 3)),
+        (4, 3, absent(2), gave_up(1), gave_up(3)),
+        (4, 2, absent(2), gave_up(0), gave_up(2)),
+        (6, 4, absent(2), absent(2), absent(4)),
+    ] {
+        assert_eq!(lookup(first, kind, limit), in_first, "{kind} up to {limit}");
+        let left = limit - in_first.count;
+        assert_eq!(lookup(second, kind, left), in_second, "{kind} up to {left}");
+        assert_eq!(lookup(&AREA, kind, limit), in_join, "{kind} up to {limit}");
+    }
+}
+
 #[test]
 fn a_type_behind_a_long_value_and_the_longest_list() {
     let area = area_of(&[(1, vec![5; 65_535]), (5, vec![0; 300])]);

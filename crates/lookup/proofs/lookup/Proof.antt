@@ -6,7 +6,7 @@ use native.Mathlib.Omega.{arith}
 use borrow.Author.Needs.{needs}
 use lib.ListN.{length}
 use Rattle.tlv.specs.Heads.{sizeAt, size-bytes}
-use Rattle.lookup.proofs.Turn.{Left, left-start, left-ill, left-done, left-room, left-out, left-found, left-again}
+use Rattle.lookup.proofs.Turn.{Left, left-start, left-ill, left-few, left-done, left-room, left-out, left-found, left-again}
 use Rattle.lookup.proofs.lookup.Statement.{statement}
 use Rattle.lookup.proofs.lookup.Tie as tie
 
@@ -54,7 +54,9 @@ returns c =
     left-out (area l) (wanted l) (limit l) (place l) (l .loop .count) (l .loop .inv) (omega arith) (omega arith)
 
 add-count : tie.Need-add-count Inv-loop μ-loop
-add-count c = omega (arith, c .before .before .loop .inv .few)
+add-count c =
+    let l = c .before .before in
+    omega (arith, left-few (area l) (wanted l) (limit l) (place l) (l .loop .count) (l .loop .inv))
 
 shared-slice-read-number : tie.Need-shared-slice-read-number Inv-loop μ-loop
 shared-slice-read-number c = let h = room (c .before .before .before) (omega arith) in omega arith
