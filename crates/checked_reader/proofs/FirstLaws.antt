@@ -13,8 +13,8 @@ use lib.Seq.{take-at, drop-at}
 use Rattle.exact.specs.Pick.{pick, pick-by}
 use Rattle.exact.specs.Network.{network}
 use Rattle.lent.specs.Same.{same}
-use Rattle.tlv.specs.Tlv.{Tlv, tlvBytes, written, Proper, Area, WellFormed}
-use Rattle.tlv.specs.Laws.{written-append, proper-behind}
+use Rattle.tlv.specs.Tlv.{Tlv, tlvBytes, written, Area, WellFormed}
+use Rattle.tlv.specs.Laws.{written-append, area-rest}
 use Rattle.tlv.specs.Test.{wellFormed, well-formed-tested}
 use Rattle.tlv.specs.Listed.{tlvsOf, tlvs-of, few}
 use Rattle.tlv.specs.Heads.{head-rest}
@@ -164,10 +164,7 @@ module _ (header area : List ℕ) (start size : ℕ) (f : FirstAt header area st
   -- what follows it
   rest : Area (drop (length (written before) + 3 + length (t .value)) area) after
   rest =
-      head-rest area (length (written before)) t after (
-        ap (drop (length (written before))) area-parts ∙ drop-at (written before) (written (t ∷ after)) _ refl,
-        proper-behind before (t ∷ after) (subst Proper (f .first .split) (f .listed .1)),
-      )
+      head-rest area (length (written before)) t after (area-rest area before (t ∷ after) (subst (Area area) (f .first .split) (f .listed)))
 
   pub behind-it : Area (drop (start + size) area) after
   behind-it =

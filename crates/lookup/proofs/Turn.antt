@@ -1,18 +1,15 @@
 -- A turn of a lookup's loop: what is known of the area and the answer where some TLVs are passed.
 use mathlib.Core.Path.{_≡_, refl, sym, ap, _∙_, subst}
 use mathlib.Core.List.{List, [], _∷_, _++_, append-nil, append-assoc}
-use Prim.Native.Nat.{ℕ, suc, _+_, _-_, _≤_, _<_}
+use Prim.Native.Nat.{ℕ, _+_, _-_, _≤_, _<_}
 use native.Mathlib.Omega.{arith}
 use borrow.Author.Tests.{le-ltb, ne-eqb}
-use lib.Dec.{ltb}
 use lib.ListN.{length, getD, drop, length-append}
-use lib.Seq.{drop-at}
-use Rattle.exact.specs.Pick.{pick}
 use Rattle.tlv.specs.Tlv.{Tlv, written, Area, WellFormed}
-use Rattle.tlv.specs.Laws.{written-append, proper-behind}
+use Rattle.tlv.specs.Laws.{written-append, area-rest}
 use Rattle.tlv.specs.Heads.{sizeAt, size-room, head-type, head-size, none-left, some-left}
 use Rattle.tlv.specs.Listed.{few}
-use Rattle.lookup.specs.Lookup.{absent, gaveUp, toldLookup, foundAt, without, firstOf, lookupIn, illFormed, lookup-listed, lookup-refused, LooksUp}
+use Rattle.lookup.specs.Lookup.{absent, gaveUp, toldLookup, foundAt, without, firstOf, lookupIn, lookup-listed, lookup-refused, LooksUp}
 use Rattle.lookup.specs.JoinedLists.{first-joined}
 use Rattle.lookup.specs.Joining.{behind}
 use Rattle.lookup.specs.Laws.{lookup-out, lookup-absent, none-passed, first-counts}
@@ -35,7 +32,7 @@ pub record Left (s : List ℕ) (wanted limit at count : ℕ) : Type 0 where
   pub within : count ≤ limit
 
 -- the same where a TLV stands at the place
-record Ahead (s : List ℕ) (wanted limit at count : ℕ) (passed : List Tlv) : Type 0 where
+record Ahead (s : List ℕ) (at : ℕ) (passed : List Tlv) : Type 0 where
   tlv : Tlv
   rest : List Tlv
   area : Area s (passed ++ tlv ∷ rest)
@@ -54,10 +51,7 @@ module _ (s : List ℕ) (wanted limit : ℕ) where
 
   module _ (at count : ℕ) (l : Left s wanted limit at count) where
     remains : Area (drop at s) (l .rest)
-    remains = (
-      ap (drop at) (l .area .0 ∙ written-append (l .passed) (l .rest)) ∙ drop-at (written (l .passed)) (written (l .rest)) at (l .place),
-      proper-behind (l .passed) (l .rest) (l .area .1),
-    )
+    remains = subst (λ (n : ℕ). Area (drop n s) (l .rest)) (l .place) (area-rest s (l .passed) (l .rest) (l .area))
 
     pub left-few : count ≤ at
     left-few = let n = few (l .passed) in omega (arith, l .place, l .counted)
@@ -68,11 +62,11 @@ module _ (s : List ℕ) (wanted limit : ℕ) where
         answers (l .passed) (examined Absent count 0 0) (subst (Area s) all (l .area))
         (lookup-absent (l .passed) wanted limit (l .none) (omega (arith, l .within, l .counted)) ∙ ap (without absent) (l .counted)) (l .within)
 
-    ahead-by : (rest : List Tlv) → Area s (l .passed ++ rest) → Area (drop at s) rest → at < length s → Ahead s wanted limit at count (l .passed)
+    ahead-by : (rest : List Tlv) → Area s (l .passed ++ rest) → Area (drop at s) rest → at < length s → Ahead s at (l .passed)
     ahead-by [] a b h = absurd (some-left s at h b)
     ahead-by (t ∷ rest) a b h = record { tlv = t; rest = rest; area = a; remains = b }
 
-    ahead : at < length s → Ahead s wanted limit at count (l .passed)
+    ahead : at < length s → Ahead s at (l .passed)
     ahead = ahead-by (l .rest) (l .area) remains
 
     pub left-room : at < length s → at + 3 + sizeAt s at ≤ length s

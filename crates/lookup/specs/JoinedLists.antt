@@ -1,8 +1,8 @@
 -- For proofs. A lookup in joined lists of TLVs, by its tests: which TLV is the first of a type, where its value starts, and its length.
-use mathlib.Core.Path.{_≡_, refl, sym, ap, ap₂, _∙_}
+use mathlib.Core.Path.{_≡_, refl, ap, ap₂, _∙_}
 use mathlib.Core.Bool.{Bool, true, false}
 use mathlib.Core.List.{List, [], _∷_, _++_}
-use Prim.Native.Nat.{ℕ, zero, suc, _+_, _≤_, _<_}
+use Prim.Native.Nat.{ℕ, zero, suc, _+_, _<_}
 use native.Mathlib.Omega.{arith}
 use borrow.Author.Tests.{ltb-true, leb-true, leb-false, lt-ltb, le-ltb, le-leb, lt-leb}
 use lib.Dec.{eqb, ltb, leb, leb·suc-suc}
@@ -11,15 +11,15 @@ use lib.Seq.{take-append-le, take-append-add}
 use Rattle.exact.specs.Pick.{pick}
 use Rattle.tlv.specs.Tlv.{Tlv, written}
 use Rattle.tlv.specs.Laws.{written-append}
-use Rattle.lookup.specs.Lookup.{absent, gaveUp, Lookup, foundAt, without, firstOf, startOf, lengthOf, lookupBy, lookupIn}
+use Rattle.lookup.specs.Lookup.{absent, gaveUp, foundAt, without, firstOf, startOf, lengthOf, lookupBy, lookupIn}
 
 pub either : {T : Type 0} (c : Bool) (x : T) → pick c x x ≡ x
 either true x = refl
 either false x = refl
 
-suc-pick : (c : Bool) (m n : ℕ) → suc (pick c m n) ≡ pick c (suc m) (suc n)
-suc-pick true m n = refl
-suc-pick false m n = refl
+pub picked : {A B : Type 0} (f : A → B) (c : Bool) (x y : A) → f (pick c x y) ≡ pick c (f x) (f y)
+picked f true x y = refl
+picked f false x y = refl
 
 -- tests of numbers that are both greater by n
 leb-moved : (n x y : ℕ) → leb (n + x) (n + y) ≡ leb x y
@@ -45,7 +45,7 @@ first-joined wanted (t ∷ a) b = by (eqb (t .type) wanted) (first-joined wanted
     by false again =
         let n : suc (length a + firstOf wanted b) ≡ suc (length a) + firstOf wanted b = omega arith in
         ap suc again
-        ∙ suc-pick (ltb (firstOf wanted a) (length a)) (firstOf wanted a) (length a + firstOf wanted b)
+        ∙ picked suc (ltb (firstOf wanted a) (length a)) (firstOf wanted a) (length a + firstOf wanted b)
         ∙ (rw (leb·suc-suc (suc (firstOf wanted a)) (length a), n))
 
 -- ── where the value of a TLV starts, and its length ──

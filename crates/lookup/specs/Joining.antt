@@ -13,7 +13,7 @@ use Rattle.tlv.specs.Laws.{area-append, area-behind}
 use Rattle.tlv.specs.Listed.{tlvsOf, tlvs-of}
 use Rattle.tlv.specs.Heads.{size-room}
 use Rattle.lookup.specs.Lookup.{Finding, found, absent, gaveUp, refused, Lookup, toldFinding, toldLookup, foundAt, without, firstOf, startOf, lengthOf, lookupIn, illFormed, lookupOf, lookup-listed, lookup-refused, LooksUp}
-use Rattle.lookup.specs.JoinedLists.{one-in-first, none-examined, none-in-first}
+use Rattle.lookup.specs.JoinedLists.{picked, one-in-first, none-examined, none-in-first}
 use Rattle.lookup.specs.declared.Examined.{Examined}
 
 join-area : (f g : List ℕ) (x : WellFormed f) (y : WellFormed g) → Area (f ++ g) (x .0 ++ y .0)
@@ -88,7 +88,7 @@ firstOr (refused number) first other = first
 abbrev pub joined : (first : Lookup) (size : ℕ) (second : ℕ → Lookup) (limit : ℕ) → Lookup
 joined first size second limit = firstOr (first .outcome) first (behind (first .count) size (second (limit - first .count)))
 
--- first of lists of TLVs
+-- first, of lists of TLVs
 module _ (a b : List Tlv) (wanted limit : ℕ) where
   abbrev i : ℕ
   i = firstOf wanted a
@@ -106,23 +106,18 @@ module _ (a b : List Tlv) (wanted limit : ℕ) where
   first-kept true k s l = refl
   first-kept false k s l = refl
 
-  second-moved : (m : ℕ) (p q r : Bool)
-      → pick p (pick q (foundAt (n + (j + 1)) (length (written a) + startOf j b) (lengthOf j b)) (without gaveUp (n + m))) (pick r (without absent (n + length b)) (without gaveUp (n + m)))
-      ≡ behind n (length (written a)) (pick p (pick q (foundAt (j + 1) (startOf j b) (lengthOf j b)) (without gaveUp m)) (pick r (without absent (length b)) (without gaveUp m)))
-  second-moved m true true r = refl
-  second-moved m true false r = refl
-  second-moved m false q true = refl
-  second-moved m false q false = refl
-
   by-tests : (p q : Bool) → ltb i n ≡ p → leb n limit ≡ q → lookupIn (a ++ b) wanted limit ≡ joinedWith (lookupIn a wanted limit)
   by-tests true q e f = one-in-first a b wanted limit e ∙ rw e (first-kept (ltb i limit) (i + 1) (startOf i a) (lengthOf i a))
   by-tests false false e f = none-examined a b wanted limit e f ∙ rw (e, f)
   by-tests false true e f =
       let h : n ≤ limit = leb-true n limit f in
-      let left : limit ≡ n + (limit - n) = omega arith in
+      let m : ℕ = limit - n in
+      let left : limit ≡ n + m = omega arith in
+      let moved : Lookup → Lookup = behind n (length (written a)) in
       ap (lookupIn (a ++ b) wanted) left
-      ∙ none-in-first a b wanted (limit - n) e
-      ∙ second-moved (limit - n) (ltb j (length b)) (ltb j (limit - n)) (leb (length b) (limit - n))
+      ∙ none-in-first a b wanted m e
+      ∙ sym (ap₂ (pick (ltb j (length b))) (picked moved (ltb j m) _ _) (picked moved (leb (length b) m) _ _))
+      ∙ sym (picked moved (ltb j (length b)) _ _)
       ∙ (rw (e, f))
 
   pub lookup-joined : lookupIn (a ++ b) wanted limit ≡ joined (lookupIn a wanted limit) (length (written a)) (lookupIn b wanted) limit

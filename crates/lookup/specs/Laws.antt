@@ -67,6 +67,7 @@ pub lookup-absent : (front : List Tlv) (wanted limit : ℕ) → firstOf wanted f
     → lookupIn front wanted limit ≡ without absent (length front)
 lookup-absent front wanted limit none h = simp (none, le-ltb (length front) (length front) (omega arith), le-leb (length front) limit h)
 
+-- then those behind them decide
 pub none-passed : (front rest : List Tlv) (wanted limit : ℕ) → firstOf wanted front ≡ length front → length front ≤ limit
     → lookupIn (front ++ rest) wanted limit ≡ behind (length front) (length (written front)) (lookupIn rest wanted (limit - length front))
 none-passed front rest wanted limit none h =

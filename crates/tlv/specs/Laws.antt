@@ -58,13 +58,20 @@ proper-append : (a b : List Tlv) → Proper a → Proper b → Proper (a ++ b)
 proper-append [] b p q = q
 proper-append (t ∷ a) b p q = (p .0, p .1, p .2, proper-append a b (p .3) q)
 
-pub proper-behind : (a b : List Tlv) → Proper (a ++ b) → Proper b
+proper-behind : (a b : List Tlv) → Proper (a ++ b) → Proper b
 proper-behind [] b p = p
 proper-behind (t ∷ a) b p = proper-behind a b (p .3)
 
 -- an area behind another
 pub area-append : (f g : List ℕ) (a b : List Tlv) → Area f a → Area g b → Area (f ++ g) (a ++ b)
 area-append f g a b x y = (ap₂ _++_ (x .0) (y .0) ∙ sym (written-append a b), proper-append a b (x .1) (y .1))
+
+-- behind the first TLVs of an area stand the others
+pub area-rest : (f : List ℕ) (a b : List Tlv) → Area f (a ++ b) → Area (drop (length (written a)) f) b
+area-rest f a b x = (
+  ap (drop (length (written a))) (x .0 ∙ written-append a b) ∙ drop-at (written a) (written b) (length (written a)) refl,
+  proper-behind a b (x .1),
+)
 
 -- what stands behind an area in a longer one is an area, and its TLVs are the rest
 pub area-behind : (f g : List ℕ) (a c : List Tlv) → Area f a → Area (f ++ g) c → (b : List Tlv) × (c ≡ a ++ b) × Area g b

@@ -1,4 +1,4 @@
--- `lookup` answers as the definition does: at the loop's head what is left of the answer is the lookup in the TLVs that remain (`Left`).
+-- `lookup` answers as the definition does: at the loop's head the TLVs passed are none of that type, and the others remain (`Left`).
 use Prim.Native.Nat.{ℕ, _+_, _-_, _≤_, _<_}
 use mathlib.Core.Path.{_≡_, sym, _∙_}
 use mathlib.Core.List.{List}
