@@ -9,13 +9,14 @@ use std::collections::BTreeMap;
 const FOUND: u32 = 0;
 const ILL_FORMED: u32 = 12;
 
-/// Types of the TLVs, of which few areas have all.
-const TYPES: [u8; 3] = [0, 1, 2];
+/// Types of the TLVs, and those that are looked for.
+const TYPES: [u8; 3] = [0, 1, 255];
+const WANTED: [u8; 4] = [0, 1, 2, 255];
 
 /// A TLV as a step shows it: its type, where its value starts, and its value.
 type Shown = (u64, u64, Vec<u8>);
 
-/// What the library's steps show from place 0 to the end; none where one is refused.
+/// What the library's steps show from place 0 to the end; none where one is refused, or shows what is not in the area.
 fn list(area: &[u8]) -> Option<Vec<Shown>> {
     let mut shown = Vec::new();
     let mut at = 0;
@@ -24,7 +25,8 @@ fn list(area: &[u8]) -> Option<Vec<Shown>> {
         let [next, kind, start, length] = step.numbers[..4] else { panic!("four numbers are lent") };
         match step.answer {
             0 if at < next as usize => {
-                shown.push((kind, start, area[start as usize..][..length as usize].to_vec()));
+                let value = area.get(start as usize..)?.get(..length as usize)?;
+                shown.push((kind, start, value.to_vec()));
                 at = next as usize;
             }
             END if at == area.len() => return Some(shown),
@@ -62,11 +64,21 @@ fn joined(first: &[u8], second: &[u8], wanted: u8, limit: usize) -> Left {
     there
 }
 
-/// What lookup leaves for the join, and what it must leave: by rule 4, or by the second program where the first area is ill-formed.
-pub fn lookups(first: &[u8], second: &[u8], wanted: u8, limit: usize) -> (Left, Left) {
-    let join = [first, second].concat();
-    let there = if well_formed(first) { joined(first, second, wanted, limit) } else { expected::lookup(&join, wanted, limit, NUMBERS) };
-    (library::lookup(&join, wanted, limit, NUMBERS), there)
+/// Rule 4, and with an ill-formed second what follows from rule 5. Of an ill-formed first nothing is asked.
+pub fn lookup_rule(first: &[u8], second: &[u8], wanted: u8, limit: usize) -> Result<(), String> {
+    if !well_formed(first) {
+        return Ok(());
+    }
+    let here = library::lookup(&[first, second].concat(), wanted, limit, NUMBERS);
+    let there = joined(first, second, wanted, limit);
+    if here == there {
+        return Ok(());
+    }
+    Err(format!("{}, {wanted} up to {limit}: the library leaves {here}, by its answers to the two it must be {there}", parts(first, second)))
+}
+
+fn parts(first: &[u8], second: &[u8]) -> String {
+    format!("{} ({} bytes) joined with {} ({} bytes)", hex(first), first.len(), hex(second), second.len())
 }
 
 /// What pairs of areas have shown, and how often lookup gave each pair of answers in a first that is well-formed and in the second.
@@ -82,7 +94,7 @@ impl Joins {
 
     /// The rules of two areas.
     fn pair(&mut self, first: &[u8], second: &[u8]) {
-        let input = || format!("{} joined with {}", hex(first), hex(second));
+        let input = || parts(first, second);
         let join = [first, second].concat();
         let (a, b, both) = (list(first), list(second), list(&join));
         for (area, list) in [(first, &a), (second, &b), (&join, &both)] {
@@ -97,23 +109,21 @@ impl Joins {
             }
         }
         let count = |list: &Option<Vec<Shown>>| list.as_ref().map_or(4, Vec::len);
-        for (wanted, limit) in (0..4).flat_map(|wanted| limits(count(&a), count(&b)).map(move |limit| (wanted, limit))) {
-            self.lookups(first, second, wanted, limit);
-        }
+        self.lookups(first, second, limits(count(&a), count(&b)));
     }
 
-    /// Rule 4.
-    fn lookups(&mut self, first: &[u8], second: &[u8], wanted: u8, limit: usize) {
-        let input = || format!("{} joined with {}, {wanted} up to {limit}", hex(first), hex(second));
-        let (here, there) = lookups(first, second, wanted, limit);
-        self.outcome.holds(here == there, || format!("{}: the library leaves {here}, the rules ask for {there}", input()));
+    /// Rule 4 for these limits, and the join in the second program.
+    fn lookups(&mut self, first: &[u8], second: &[u8], limits: impl Iterator<Item = usize>) {
         let join = [first, second].concat();
-        self.outcome.same(&here, &expected::lookup(&join, wanted, limit, NUMBERS), input);
-        let in_first = library::lookup(first, wanted, limit, NUMBERS);
-        if in_first.answer != ILL_FORMED {
-            let left = limit - in_first.numbers[0] as usize;
-            let in_second = library::lookup(second, wanted, left, NUMBERS);
-            *self.answers.entry((in_first.answer, in_second.answer)).or_default() += 1;
+        for (limit, wanted) in limits.flat_map(|limit| WANTED.map(|wanted| (limit, wanted))) {
+            self.outcome.add(lookup_rule(first, second, wanted, limit));
+            let (here, there) = (library::lookup(&join, wanted, limit, NUMBERS), expected::lookup(&join, wanted, limit, NUMBERS));
+            self.outcome.same(&here, &there, || format!("{}, {wanted} up to {limit}", parts(first, second)));
+            let in_first = library::lookup(first, wanted, limit, NUMBERS);
+            if in_first.answer != ILL_FORMED {
+                let in_second = library::lookup(second, wanted, limit - in_first.numbers[0] as usize, NUMBERS);
+                *self.answers.entry((in_first.answer, in_second.answer)).or_default() += 1;
+            }
         }
     }
 
@@ -126,19 +136,18 @@ impl Joins {
             let right = joined_list(&a, f.len(), &joined_list(&b, g.len(), &c));
             let all = list(&[f, g, h].concat());
             self.outcome.holds(all.as_ref() == Some(&left) && left == right, || {
-                format!("{}, {} and {}: {left:?} or {right:?}, and the join's list is {all:?}", hex(f), hex(g), hex(h))
+                format!("{} and {}: {left:?} or {right:?}, and the join's list is {all:?}", parts(f, g), hex(h))
             });
         }
         self.pair(&[], f);
         self.pair(f, &[]);
     }
 
-    /// Every answer that the two may give came: what is found in the first or given up there, and all three in the second behind an absent first, each also beside
-    /// an ill-formed second.
+    /// Every pair of answers came: found, absent or gave up in the first, and any of the four in the second. Where the first gave up nothing is left of the
+    /// limit, so nothing is found in the second.
     fn all_reached(mut self) -> Outcome {
         let second = [FOUND, ABSENT, GAVE_UP, ILL_FORMED];
         let due = [FOUND, ABSENT, GAVE_UP].into_iter().flat_map(|first| second.map(|second| (first, second)));
-        // With nothing left of the limit, the second is given up or empty.
         let missing: Vec<_> = due.filter(|pair| *pair != (GAVE_UP, FOUND) && !self.answers.contains_key(pair)).collect();
         self.outcome.holds(missing.is_empty(), || format!("no lookup gave the answers {missing:?}"));
         self.outcome.name = format!("{}, by answers {:?}", self.outcome.name, self.answers);
@@ -152,10 +161,10 @@ fn limits(a: usize, b: usize) -> impl Iterator<Item = usize> {
     (0..=a + b + 2).filter(move |limit| a + b < 30 || near(*limit, 0) || near(*limit, a) || near(*limit, a + b)).chain([usize::MAX])
 }
 
-/// Each area cut at every place: at the end of a TLV both parts are well-formed, elsewhere the first is not.
+/// Areas cut at every place: at the end of a TLV both parts are well-formed, elsewhere the first is not.
 pub fn cuts() -> Outcome {
     let mut joins = Joins::new("areas cut in two");
-    let tlvs = [headers::tlv(1, 0), headers::tlv(0, 2), headers::tlv(1, 3), headers::tlv(2, 0), headers::tlv(0, 258)];
+    let tlvs = [headers::tlv(1, 0), headers::tlv(0, 2), headers::tlv(1, 3), headers::tlv(255, 0), headers::tlv(0, 258)];
     for end in 0..=tlvs.len() {
         let area = tlvs[..end].concat();
         for place in 0..=area.len() {
@@ -165,23 +174,21 @@ pub fn cuts() -> Outcome {
     joins.outcome
 }
 
-/// Values and areas of the greatest length, and the longest list, with another on either side.
+/// Values of 65,535 bytes, and a list of as many TLVs as 65,535 bytes hold, with another area on either side. They are looked up and not walked: a step looks
+/// at all that remains.
 pub fn long() -> Outcome {
     let mut joins = Joins::new("long areas joined");
-    let long = [headers::tlv(1, 65_535), [headers::tlv(1, 65_535), headers::tlv(2, 65_535)].concat(), vec![0; 3 * 21_845]];
-    let short = [vec![], headers::tlv(2, 1), [headers::tlv(1, 0), headers::tlv(2, 300)].concat(), vec![2, 0, 1]];
+    let long = [headers::tlv(1, 65_535), [headers::tlv(1, 65_535), headers::tlv(255, 65_535)].concat(), vec![0; 3 * 21_845]];
+    let short = [vec![], headers::tlv(255, 1), [headers::tlv(1, 0), headers::tlv(255, 300)].concat(), vec![2, 0, 1]];
     for (long, short) in long.iter().flat_map(|long| short.iter().map(move |short| (long, short))) {
-        // A step looks at all that remains: the longest list is looked up and not walked.
         for (first, second) in [(long, short), (short, long)] {
-            for (wanted, limit) in (0..4).flat_map(|wanted| limits(21_845, 2).chain(limits(2, 1)).map(move |limit| (wanted, limit))) {
-                joins.lookups(first, second, wanted, limit);
-            }
+            joins.lookups(first, second, limits(21_845, 2).chain(limits(2, 1)));
         }
     }
     joins.outcome
 }
 
-/// Areas at random, whole and damaged, by three.
+/// Areas at random, whole and damaged, by twos and threes.
 pub fn generated(random: &mut Random, count: usize) -> Outcome {
     let mut joins = Joins::new("joined areas");
     for _ in 0..count {

@@ -1,4 +1,4 @@
-//! A libFuzzer target: the C library and the second program on the same input. A difference ends the run.
+//! A libFuzzer target: the C library and the second program on the same input, and the library's answers to joined areas. A difference ends the run.
 use compare::connection::SIZE;
 use compare::{checksum_headers, expected, hex, joining, library, same, STORED_VERSIONS};
 
@@ -50,7 +50,7 @@ fn compare(input: &[u8]) -> Result<(), String> {
             (library::read_checked(input, numbers, SIZE + 3), expected::read_checked(input, numbers, SIZE + 3))
         }
         // The limit is a small one.
-        17 => joining::lookups(first, second, *high, usize::from(choice >> 5)),
+        17 => return joining::lookup_rule(first, second, *high, usize::from(choice >> 5)),
         _ => (library::doorman(table, bytes, numbers), expected::doorman(table, bytes, numbers)),
     };
     same(&here, &there, || format!("function {}, {number}, {numbers} numbers, {}", choice & 31, hex(input)))

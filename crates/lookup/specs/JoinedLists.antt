@@ -17,9 +17,9 @@ pub either : {T : Type 0} (c : Bool) (x : T) → pick c x x ≡ x
 either true x = refl
 either false x = refl
 
-pub picked : {A B : Type 0} (f : A → B) (c : Bool) (x y : A) → f (pick c x y) ≡ pick c (f x) (f y)
-picked f true x y = refl
-picked f false x y = refl
+suc-pick : (c : Bool) (m n : ℕ) → suc (pick c m n) ≡ pick c (suc m) (suc n)
+suc-pick true m n = refl
+suc-pick false m n = refl
 
 -- tests of numbers that are both greater by n
 leb-moved : (n x y : ℕ) → leb (n + x) (n + y) ≡ leb x y
@@ -45,7 +45,7 @@ first-joined wanted (t ∷ a) b = by (eqb (t .type) wanted) (first-joined wanted
     by false again =
         let n : suc (length a + firstOf wanted b) ≡ suc (length a) + firstOf wanted b = omega arith in
         ap suc again
-        ∙ picked suc (ltb (firstOf wanted a) (length a)) (firstOf wanted a) (length a + firstOf wanted b)
+        ∙ suc-pick (ltb (firstOf wanted a) (length a)) (firstOf wanted a) (length a + firstOf wanted b)
         ∙ (rw (leb·suc-suc (suc (firstOf wanted a)) (length a), n))
 
 -- ── where the value of a TLV starts, and its length ──

@@ -13,7 +13,7 @@ use Rattle.tlv.specs.Laws.{area-append, area-behind}
 use Rattle.tlv.specs.Listed.{tlvsOf, tlvs-of}
 use Rattle.tlv.specs.Heads.{size-room}
 use Rattle.lookup.specs.Lookup.{Finding, found, absent, gaveUp, refused, Lookup, toldFinding, toldLookup, foundAt, without, firstOf, startOf, lengthOf, lookupIn, illFormed, lookupOf, lookup-listed, lookup-refused, LooksUp}
-use Rattle.lookup.specs.JoinedLists.{picked, one-in-first, none-examined, none-in-first}
+use Rattle.lookup.specs.JoinedLists.{one-in-first, none-examined, none-in-first}
 use Rattle.lookup.specs.declared.Examined.{Examined}
 
 join-area : (f g : List ℕ) (x : WellFormed f) (y : WellFormed g) → Area (f ++ g) (x .0 ++ y .0)
@@ -59,7 +59,7 @@ three-lists f g h x y z =
     ∙ ap (λ (l : List Tlv). l ++ tlvsOf h) (join-list f g x y)
 
 -- ── 4. lookup in a join ──
--- "a found start moved by the first area's length"
+-- "a found start moved by the first area's length"; well-formed areas are never refused
 abbrev pub movedStart : Finding → ℕ → ℕ → ℕ
 movedStart found size start = size + start
 movedStart absent size start = start
@@ -106,19 +106,25 @@ module _ (a b : List Tlv) (wanted limit : ℕ) where
   first-kept true k s l = refl
   first-kept false k s l = refl
 
+  second-moved : (m : ℕ) (p q r : Bool)
+      → pick p (pick q (foundAt (n + (j + 1)) (length (written a) + startOf j b) (lengthOf j b)) (without gaveUp (n + m))) (pick r (without absent (n + length b)) (without gaveUp (n + m)))
+      ≡ behind n (length (written a)) (pick p (pick q (foundAt (j + 1) (startOf j b) (lengthOf j b)) (without gaveUp m)) (pick r (without absent (length b)) (without gaveUp m)))
+  second-moved m true true r = refl
+  second-moved m true false r = refl
+  second-moved m false q true = refl
+  second-moved m false q false = refl
+
   by-tests : (p q : Bool) → ltb i n ≡ p → leb n limit ≡ q → lookupIn (a ++ b) wanted limit ≡ joinedWith (lookupIn a wanted limit)
   by-tests true q e f = one-in-first a b wanted limit e ∙ rw e (first-kept (ltb i limit) (i + 1) (startOf i a) (lengthOf i a))
   by-tests false false e f = none-examined a b wanted limit e f ∙ rw (e, f)
   by-tests false true e f =
       let h : n ≤ limit = leb-true n limit f in
-      let m : ℕ = limit - n in
-      let left : limit ≡ n + m = omega arith in
-      let moved : Lookup → Lookup = behind n (length (written a)) in
+      let left : limit ≡ n + (limit - n) = omega arith in
+      let here : lookupIn a wanted limit ≡ without absent n = rw (e, f) in
       ap (lookupIn (a ++ b) wanted) left
-      ∙ none-in-first a b wanted m e
-      ∙ sym (ap₂ (pick (ltb j (length b))) (picked moved (ltb j m) _ _) (picked moved (leb (length b) m) _ _))
-      ∙ sym (picked moved (ltb j (length b)) _ _)
-      ∙ (rw (e, f))
+      ∙ none-in-first a b wanted (limit - n) e
+      ∙ second-moved (limit - n) (ltb j (length b)) (ltb j (limit - n)) (leb (length b) (limit - n))
+      ∙ sym (ap joinedWith here)
 
   pub lookup-joined : lookupIn (a ++ b) wanted limit ≡ joined (lookupIn a wanted limit) (length (written a)) (lookupIn b wanted) limit
   lookup-joined = by-tests (ltb i n) (leb n limit) refl refl
@@ -132,15 +138,21 @@ lookup-join f g x y wanted limit =
     ∙ (λ k.
     joined (sym (lookup-listed f wanted limit (x .0) (x .1)) k) (length (sym (x .1 .0) k)) (λ m. sym (lookup-listed g wanted m (y .0) (y .1)) k) limit)
 
--- so of three calls of `lookup`, in the first, in the second with what the first has left of the limit, and in the join
+-- so of calls of `lookup`: in the first, where that is absent in the second with what is left of the limit, and in the join
+other-if-absent : (x : Finding) (first one another : Lookup) → (x ≡ absent → one ≡ another) → firstOr x first one ≡ firstOr x first another
+other-if-absent found first one another e = refl
+other-if-absent absent first one another e = e refl
+other-if-absent gaveUp first one another e = refl
+other-if-absent (refused number) first one another e = refl
+
 pub calls-join : (f g : List ℕ) → WellFormed f → WellFormed g → (wanted limit : ℕ) (r s t : Examined)
-    → LooksUp f wanted limit r → LooksUp g wanted (limit - r .count) s → LooksUp (f ++ g) wanted limit t
+    → LooksUp f wanted limit r → (toldFinding (r .answer) ≡ absent → LooksUp g wanted (limit - r .count) s) → LooksUp (f ++ g) wanted limit t
     → toldLookup t ≡ firstOr (toldFinding (r .answer)) (toldLookup r) (behind (r .count) (length f) (toldLookup s))
 calls-join f g x y wanted limit r s t in-first in-second in-join =
     in-join .answers
     ∙ lookup-join f g x y wanted limit
     ∙ ap (λ (first : Lookup). joined first (length f) (lookupOf g wanted) limit) (sym (in-first .answers))
-    ∙ ap (λ (second : Lookup). firstOr (toldFinding (r .answer)) (toldLookup r) (behind (r .count) (length f) second)) (sym (in-second .answers))
+    ∙ other-if-absent (toldFinding (r .answer)) (toldLookup r) _ _ (λ e. ap (behind (r .count) (length f)) (sym (in-second e .answers)))
 
 -- ── 5. "If the first part and the join are well-formed, so is the second" ──
 pub second-well-formed : (f g : List ℕ) → WellFormed f → WellFormed (f ++ g) → WellFormed g

@@ -9,10 +9,12 @@ use borrow.Author.Tests.{leb-true, ltb-true, lt-ltb, le-ltb, le-leb, eq-eqb}
 use lib.Dec.{ltb, leb, leb·zero, leb·suc-zero, leb·suc-suc}
 use lib.ListN.{length, take, drop}
 use lib.Seq.{take-append-seam, drop-append-add}
-use Rattle.exact.specs.Pick.{pick}
+use Rattle.exact.specs.Pick.{pick, pick-by}
 use Rattle.tlv.specs.Tlv.{Tlv, written, Area}
 use Rattle.tlv.specs.Laws.{written-append}
-use Rattle.lookup.specs.Lookup.{Finding, found, absent, gaveUp, refused, Lookup, foundAt, without, firstOf, startOf, lengthOf, lookupIn}
+use Rattle.tlv.specs.Listed.{tlvsOf}
+use Rattle.tlv.specs.Test.{wellFormed}
+use Rattle.lookup.specs.Lookup.{Finding, found, absent, gaveUp, refused, Lookup, foundAt, without, firstOf, startOf, lengthOf, lookupIn, lookupOf}
 use Rattle.lookup.specs.JoinedLists.{either}
 use Rattle.lookup.specs.Joining.{behind, joined, lookup-joined}
 
@@ -30,6 +32,10 @@ module _ (tlvs : List Tlv) (wanted limit : ℕ) where
 
   pub count-within : lookupIn tlvs wanted limit .count ≤ limit
   count-within = count-by (ltb i (length tlvs)) (ltb i limit) (leb (length tlvs) limit) refl refl
+
+pub lookup-within : (area : List ℕ) (wanted limit : ℕ) → lookupOf area wanted limit .count ≤ limit
+lookup-within area wanted limit =
+    pick-by (λ (x : Lookup). x .count ≤ limit) (wellFormed area) (λ e. count-within (tlvsOf area) wanted limit) (λ e. omega arith)
 
 -- with nothing left of the limit none is examined
 pub lookup-out : (t : Tlv) (rest : List Tlv) (wanted : ℕ) → lookupIn (t ∷ rest) wanted 0 ≡ without gaveUp 0
