@@ -312,9 +312,10 @@ uint32_t dawnhawse_step(const uint8_t *area, size_t area_len, size_t at, uint64_
  *   DAWNHAWSE_ILL_FORMED   TLVs do not fill the area; numbers: 0, the type, 0, 0
  *
  * Two areas that TLVs fill, one behind the other, are again filled by TLVs. Answer and numbers for the whole are those for the
- * first, unless it answers DAWNHAWSE_ABSENT: then they are those for the second, with the limit less the TLVs examined in the first,
- * the counts added, and a found start moved by the first area's length. If TLVs do not fill the second, they do not fill the whole:
- * its answer is DAWNHAWSE_ILL_FORMED, even where the first has the type.
+ * first, unless it answers DAWNHAWSE_ABSENT: then they are those for the second, with the limit less the TLVs examined in the
+ * first, the counts added, and a found start moved by the first area's length. If TLVs fill the first and not the second, they do
+ * not fill the whole: its answer is DAWNHAWSE_ILL_FORMED, even where the first has the type. If they do not fill the first, the
+ * whole may be either.
  */
 uint32_t dawnhawse_lookup(const uint8_t *area, size_t area_len, uint8_t wanted, size_t limit, uint64_t *numbers,
                           size_t numbers_len);

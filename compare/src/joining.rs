@@ -108,14 +108,15 @@ impl Joins {
                 self.outcome.holds(*both == joined_list(a, first.len(), b), || format!("{}: the lists are {a:?} and {b:?}, that of the join {both:?}", input()));
             }
         }
+        // An ill-formed area has no count: some limits will do.
         let count = |list: &Option<Vec<Shown>>| list.as_ref().map_or(4, Vec::len);
         self.lookups(first, second, limits(count(&a), count(&b)));
     }
 
     /// Rule 4 for these limits, and the join in the second program.
-    fn lookups(&mut self, first: &[u8], second: &[u8], limits: impl Iterator<Item = usize>) {
+    fn lookups(&mut self, first: &[u8], second: &[u8], up_to: impl Iterator<Item = usize>) {
         let join = [first, second].concat();
-        for (limit, wanted) in limits.flat_map(|limit| WANTED.map(|wanted| (limit, wanted))) {
+        for (limit, wanted) in up_to.flat_map(|limit| WANTED.map(|wanted| (limit, wanted))) {
             self.outcome.add(lookup_rule(first, second, wanted, limit));
             let (here, there) = (library::lookup(&join, wanted, limit, NUMBERS), expected::lookup(&join, wanted, limit, NUMBERS));
             self.outcome.same(&here, &there, || format!("{}, {wanted} up to {limit}", parts(first, second)));
@@ -161,7 +162,7 @@ fn limits(a: usize, b: usize) -> impl Iterator<Item = usize> {
     (0..=a + b + 2).filter(move |limit| a + b < 30 || near(*limit, 0) || near(*limit, a) || near(*limit, a + b)).chain([usize::MAX])
 }
 
-/// Areas cut at every place: at the end of a TLV both parts are well-formed, elsewhere the first is not.
+/// Areas cut at every place: at place 0 and at the end of a TLV both parts are well-formed, elsewhere the first is not.
 pub fn cuts() -> Outcome {
     let mut joins = Joins::new("areas cut in two");
     let tlvs = [headers::tlv(1, 0), headers::tlv(0, 2), headers::tlv(1, 3), headers::tlv(255, 0), headers::tlv(0, 258)];

@@ -49,7 +49,7 @@ fn compare(input: &[u8]) -> Result<(), String> {
             let input = &checksum_headers::righted(input);
             (library::read_checked(input, numbers, SIZE + 3), expected::read_checked(input, numbers, SIZE + 3))
         }
-        // The limit is a small one.
+        // The limit is what is otherwise the choice of how many numbers are lent.
         17 => return joining::lookup_rule(first, second, *high, usize::from(choice >> 5)),
         _ => (library::doorman(table, bytes, numbers), expected::doorman(table, bytes, numbers)),
     };

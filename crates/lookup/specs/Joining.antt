@@ -2,7 +2,7 @@
 use mathlib.Core.Path.{_≡_, refl, sym, ap, ap₂, _∙_}
 use mathlib.Core.Bool.{Bool, true, false}
 use mathlib.Core.List.{List, [], _∷_, _++_, append-nil, append-assoc}
-use Prim.Native.Nat.{ℕ, _+_, _-_, _≤_}
+use Prim.Native.Nat.{ℕ, _+_, _-_, _≤_, _<_}
 use native.Mathlib.Omega.{arith}
 use borrow.Author.Tests.{leb-true}
 use lib.Dec.{ltb, leb}
@@ -138,13 +138,14 @@ lookup-join f g x y wanted limit =
     ∙ (λ k.
     joined (sym (lookup-listed f wanted limit (x .0) (x .1)) k) (length (sym (x .1 .0) k)) (λ m. sym (lookup-listed g wanted m (y .0) (y .1)) k) limit)
 
--- so of calls of `lookup`: in the first, where that is absent in the second with what is left of the limit, and in the join
+-- another matters only where the first is absent
 other-if-absent : (x : Finding) (first one another : Lookup) → (x ≡ absent → one ≡ another) → firstOr x first one ≡ firstOr x first another
 other-if-absent found first one another e = refl
 other-if-absent absent first one another e = e refl
 other-if-absent gaveUp first one another e = refl
 other-if-absent (refused number) first one another e = refl
 
+-- so of calls of `lookup`: in the first, where that is absent in the second with what is left of the limit, and in the join
 pub calls-join : (f g : List ℕ) → WellFormed f → WellFormed g → (wanted limit : ℕ) (r s t : Examined)
     → LooksUp f wanted limit r → (toldFinding (r .answer) ≡ absent → LooksUp g wanted (limit - r .count) s) → LooksUp (f ++ g) wanted limit t
     → toldLookup t ≡ firstOr (toldFinding (r .answer)) (toldLookup r) (behind (r .count) (length f) (toldLookup s))
@@ -158,23 +159,42 @@ calls-join f g x y wanted limit r s t in-first in-second in-join =
 pub second-well-formed : (f g : List ℕ) → WellFormed f → WellFormed (f ++ g) → WellFormed g
 second-well-formed f g x w = let r = area-behind f g (x .0) (w .0) (x .1) (w .1) in (r .0, r .2)
 
--- so an ill-formed second part makes the join ill-formed, and lookup answers 12, count 0
+-- so behind a well-formed part an ill-formed one makes the join ill-formed, and lookup answers 12, count 0
 pub join-ill-formed : (f g : List ℕ) → WellFormed f → (WellFormed g → ⊥) → WellFormed (f ++ g) → ⊥
 join-ill-formed f g x not w = not (second-well-formed f g x w)
 
 pub lookup-ill-formed : (f g : List ℕ) → WellFormed f → (WellFormed g → ⊥) → (wanted limit : ℕ) → lookupOf (f ++ g) wanted limit ≡ illFormed
 lookup-ill-formed f g x not wanted limit = lookup-refused (f ++ g) wanted limit (join-ill-formed f g x not)
 
--- The first part's form can't be left out: behind the head of a TLV with a value of three bytes, a TLV without a value is that value.
+-- ── what does not follow ──
+-- behind the head of a TLV with a value of three bytes, three bytes are that value
 abbrev cut : List ℕ
 cut = 4 ∷ 0 ∷ 3 ∷ []
 
+cut-ill-formed : WellFormed cut → ⊥
+cut-ill-formed w = let room = size-room cut 0 (w .0) (omega arith) (w .1) in omega arith
+
+cut-joined : (a b c : ℕ) → a < 256 → b < 256 → c < 256 → WellFormed (cut ++ a ∷ b ∷ c ∷ [])
+cut-joined a b c x y z = (record { type = 4; value = a ∷ b ∷ c ∷ [] } ∷ [], (refl, (omega arith, (x, (y, (z, tt))), omega arith, tt)))
+
+-- that the first part is well-formed, from the second and the join
 abbrev whole : List ℕ
 whole = 1 ∷ 0 ∷ 0 ∷ []
 
 pub first-not-well-formed : WellFormed whole × WellFormed (cut ++ whole) × (WellFormed cut → ⊥)
 first-not-well-formed = (
   (record { type = 1; value = [] } ∷ [], (refl, (omega arith, tt, omega arith, tt))),
-  (record { type = 4; value = whole } ∷ [], (refl, (omega arith, (omega arith, (omega arith, (omega arith, tt))), omega arith, tt))),
-  λ w. let room = size-room cut 0 (w .0) (omega arith) (w .1) in omega arith,
+  cut-joined 1 0 0 (omega arith) (omega arith) (omega arith),
+  cut-ill-formed,
+)
+
+-- that the second is, from the join alone
+abbrev short : List ℕ
+short = 1 ∷ 0 ∷ 1 ∷ []
+
+pub neither-well-formed : WellFormed (cut ++ short) × (WellFormed cut → ⊥) × (WellFormed short → ⊥)
+neither-well-formed = (
+  cut-joined 1 0 1 (omega arith) (omega arith) (omega arith),
+  cut-ill-formed,
+  λ w. let room = size-room short 0 (w .0) (omega arith) (w .1) in omega arith,
 )
