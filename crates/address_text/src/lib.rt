@@ -1,25 +1,24 @@
 // An address as version 1 text (document 01, "The text line"). No public function has a `requires`.
-use draft::Draft;
 use draft::push_decimals;
 use draft::push_hexes;
 use exact::number;
 ghost use mathlib.Core.Path.{_≡_};
 ghost use lib.ListN.{take};
-ghost use Rattle.draft.specs.Drafts.{appended};
+ghost use Rattle.draft.specs.Drafts.{drafted, appended};
 ghost use Rattle.address_text.specs.Addresses.{octetsText, groupsText, groupsOf, addressText};
 
 // IPv4 text: four decimals with dots.
-fn push_octets(draft: Draft, octets: [u16; 4]) -> Draft
-    ensures { λ r. ⌜ r ≡ appended draft (octetsText octets) ⌝ }
+fn push_octets(text: &mut [u8], at: usize, octets: [u16; 4]) -> usize
+    ensures { λ r. ⌜ drafted (now (text .exit)) r ≡ appended (drafted (now (text .entry)) at) (octetsText octets) ⌝ }
 {
-    push_decimals(draft, b'.', &octets)
+    push_decimals(text, at, b'.', &octets)
 }
 
 // IPv6 text: eight groups with colons.
-fn push_groups(draft: Draft, groups: [u16; 8]) -> Draft
-    ensures { λ r. ⌜ r ≡ appended draft (groupsText groups) ⌝ }
+fn push_groups(text: &mut [u8], at: usize, groups: [u16; 8]) -> usize
+    ensures { λ r. ⌜ drafted (now (text .exit)) r ≡ appended (drafted (now (text .entry)) at) (groupsText groups) ⌝ }
 {
-    push_hexes(draft, b':', &groups)
+    push_hexes(text, at, b':', &groups)
 }
 
 // A byte as a number.
@@ -50,12 +49,12 @@ fn groups_of(held: [u8; 108]) -> [u16; 8]
 }
 
 // The address that a record holds: of IPv6 if six, else of IPv4.
-pub fn push_address(draft: Draft, six: bool, held: [u8; 108]) -> Draft
-    ensures { λ r. ⌜ r ≡ appended draft (addressText six held) ⌝ }
+pub fn push_address(text: &mut [u8], at: usize, six: bool, held: [u8; 108]) -> usize
+    ensures { λ r. ⌜ drafted (now (text .exit)) r ≡ appended (drafted (now (text .entry)) at) (addressText six held) ⌝ }
 {
     if six {
-        push_groups(draft, groups_of(held))
+        push_groups(text, at, groups_of(held))
     } else {
-        push_octets(draft, octets_of(held))
+        push_octets(text, at, octets_of(held))
     }
 }

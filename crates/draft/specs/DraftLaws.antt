@@ -4,11 +4,12 @@ use mathlib.Core.List.{List, [], _∷_, _++_, append-nil}
 use Prim.Native.Nat.{ℕ, suc, _-_, _≤_, _<_}
 use native.Mathlib.Omega.{arith}
 use native.Mathlib.Numerals.{add-one}
-use lib.ListN.{length, take, replicate, length-append}
+use lib.Dec.{ltb}
+use lib.ListN.{length, take, replicate, length-append, length-set, length-replicate}
 use lib.Seq.{append-snoc, set-append-seam, take-append-seam}
 use borrow.Author.Tests.{lt-ltb}
-use Rattle.draft.specs.declared.Draft.{Draft}
-use Rattle.draft.specs.Drafts.{draftOf, pushed, appended}
+use Rattle.exact.specs.Pick.{pick-by}
+use Rattle.draft.specs.Drafts.{Draft, draftOf, pushed, appended}
 
 pub appended-none : (d : Draft) → appended d [] ≡ d
 unfolding appended
@@ -19,12 +20,27 @@ unfolding appended
 appended-more d [] y = refl
 appended-more d (c ∷ x) y = appended-more (pushed d c) x y
 
+pushed-length : (d : Draft) (c : ℕ) → length (pushed d c .bytes) ≡ length (d .bytes)
+unfolding pushed
+pushed-length d c =
+    pick-by (λ (e : Draft). length (e .bytes) ≡ length (d .bytes)) (ltb (d .length) (length (d .bytes))) (λ t. simp length-set) (λ t. refl)
+
+lengths : (d : Draft) (x : List ℕ) → length (appended d x .bytes) ≡ length (d .bytes)
+unfolding appended
+lengths d [] = refl
+lengths d (c ∷ x) = lengths (pushed d c) x ∙ pushed-length d c
+
+-- a draft with a text more has as many bytes
+pub appended-length : {e : Draft} (d : Draft) (x : List ℕ) → e ≡ appended d x → length (e .bytes) ≡ length (d .bytes)
+appended-length d x is = ap (λ (f : Draft). length (f .bytes)) is ∙ lengths d x
+
 pushed-draft : (x : List ℕ) (c : ℕ) → length x < 104 → pushed (draftOf x) c ≡ draftOf (x ++ c ∷ [])
 unfolding pushed
 pushed-draft x c fits =
+    let room : length x < length (x ++ replicate (104 - length x) 0) = simp (length-append, length-replicate) (omega arith) in
     let left : 104 - length x ≡ suc (104 - suc (length x)) = omega arith in
     let size : length (x ++ c ∷ []) ≡ suc (length x) = simp length-append (omega arith) in
-    rw (lt-ltb (length x) 104 fits, left, size, add-one, append-snoc x c, set-append-seam x 0)
+    rw (lt-ltb (length x) (length (x ++ replicate (104 - length x) 0)) room, left, size, add-one, append-snoc x c, set-append-seam x 0)
 
 -- a text that fits is the draft
 pub appended-draft : (x y : List ℕ) → length (x ++ y) ≤ 104 → appended (draftOf x) y ≡ draftOf (x ++ y)

@@ -1,50 +1,33 @@
-// Text composed by value, in 104 bytes: as many as the longest version 1 line has (document 01, "The text line"). What has no room in a draft is
-// left out. No public function has a `requires`.
+// Text composed in lent bytes: each function puts its text from a place on, as far as there is room, and answers the place behind it. What has no room
+// is left out. No public function has a `requires`.
 ghost use mathlib.Core.Path.{_≡_};
 ghost use mathlib.Core.List.{[], _∷_};
 ghost use Prim.Native.Nat.{_≤_, _<_};
 ghost use Rattle.draft.specs.Numeral.{digit as digitOf, numeral, decimalText, hexText, joined};
-ghost use Rattle.draft.specs.Drafts.{draftOf, appended};
+ghost use Rattle.draft.specs.Drafts.{drafted, appended};
 
-// The text so far: the first length bytes.
-pub struct Draft {
-    pub bytes: [u8; 104],
-    pub length: usize,
-}
-
-// Nothing yet.
-pub fn empty() -> Draft
-    ensures { λ r. ⌜ r ≡ draftOf [] ⌝ }
+// One byte.
+pub fn push(text: &mut [u8], at: usize, byte: u8) -> usize
+    ensures { λ r. ⌜ drafted (now (text .exit)) r ≡ appended (drafted (now (text .entry)) at) (byte ∷ []) ⌝ }
 {
-    Draft {
-        bytes: [0; 104],
-        length: 0,
+    if at < text.len() {
+        text[at] = byte;
+        return at + 1;
     }
-}
-
-// One byte more.
-pub fn push(mut draft: Draft, byte: u8) -> Draft
-    ensures { λ r. ⌜ r ≡ appended draft (byte ∷ []) ⌝ }
-{
-    let at = draft.length;
-    if at < 104 {
-        draft.bytes[at] = byte;
-        draft.length = at + 1;
-    }
-    draft
+    at
 }
 
 // The bytes of a word.
-pub fn push_word(draft: Draft, word: &[u8]) -> Draft
-    ensures { λ r. ⌜ r ≡ appended draft (now (word .entry)) ⌝ }
+pub fn push_word(text: &mut [u8], at: usize, word: &[u8]) -> usize
+    ensures { λ r. ⌜ drafted (now (text .exit)) r ≡ appended (drafted (now (text .entry)) at) (now (word .entry)) ⌝ }
 {
-    let mut longer = draft;
+    let mut end = at;
     let mut i: usize = 0;
     while i < word.len() {
-        longer = push(longer, word[i]);
+        end = push(text, end, word[i]);
         i += 1;
     }
-    longer
+    end
 }
 
 // A digit, in a base up to 16.
@@ -60,14 +43,15 @@ fn digit(d: u64) -> u8
 }
 
 // A number in a base.
-fn push_number(draft: Draft, base: u64, n: u64) -> Draft
+fn push_number(text: &mut [u8], at: usize, base: u64, n: u64) -> usize
     requires { ⌜ (2 ≤ base) × (base ≤ 16) ⌝ }
-    ensures { λ r. ⌜ r ≡ appended draft (numeral base n) ⌝ }
+    ensures { λ r. ⌜ drafted (now (text .exit)) r ≡ appended (drafted (now (text .entry)) at) (numeral base n) ⌝ }
 {
     if n < base {
-        return push(draft, digit(n));
+        return push(text, at, digit(n));
     }
-    push(push_number(draft, base, n / base), digit(n % base))
+    let at = push_number(text, at, base, n / base);
+    push(text, at, digit(n % base))
 }
 
 fn wide(n: u16) -> u64
@@ -77,39 +61,39 @@ fn wide(n: u16) -> u64
 }
 
 // Numbers in a base, with a byte between two.
-fn push_numbers(draft: Draft, base: u64, separator: u8, numbers: &[u16]) -> Draft
+fn push_numbers(text: &mut [u8], at: usize, base: u64, separator: u8, numbers: &[u16]) -> usize
     requires { ⌜ (2 ≤ base) × (base ≤ 16) ⌝ }
-    ensures { λ r. ⌜ r ≡ appended draft (joined (separator ∷ []) (numeral base) (now (numbers .entry))) ⌝ }
+    ensures { λ r. ⌜ drafted (now (text .exit)) r ≡ appended (drafted (now (text .entry)) at) (joined (separator ∷ []) (numeral base) (now (numbers .entry))) ⌝ }
 {
-    let mut longer = draft;
+    let mut end = at;
     let mut i: usize = 0;
     while i < numbers.len() {
         if 0 < i {
-            longer = push(longer, separator);
+            end = push(text, end, separator);
         }
-        longer = push_number(longer, base, wide(numbers[i]));
+        end = push_number(text, end, base, wide(numbers[i]));
         i += 1;
     }
-    longer
+    end
 }
 
 // A number in decimal.
-pub fn push_decimal(draft: Draft, n: u64) -> Draft
-    ensures { λ r. ⌜ r ≡ appended draft (decimalText n) ⌝ }
+pub fn push_decimal(text: &mut [u8], at: usize, n: u64) -> usize
+    ensures { λ r. ⌜ drafted (now (text .exit)) r ≡ appended (drafted (now (text .entry)) at) (decimalText n) ⌝ }
 {
-    push_number(draft, 10, n)
+    push_number(text, at, 10, n)
 }
 
 // Numbers in decimal, with a byte between two.
-pub fn push_decimals(draft: Draft, separator: u8, numbers: &[u16]) -> Draft
-    ensures { λ r. ⌜ r ≡ appended draft (joined (separator ∷ []) decimalText (now (numbers .entry))) ⌝ }
+pub fn push_decimals(text: &mut [u8], at: usize, separator: u8, numbers: &[u16]) -> usize
+    ensures { λ r. ⌜ drafted (now (text .exit)) r ≡ appended (drafted (now (text .entry)) at) (joined (separator ∷ []) decimalText (now (numbers .entry))) ⌝ }
 {
-    push_numbers(draft, 10, separator, numbers)
+    push_numbers(text, at, 10, separator, numbers)
 }
 
 // Numbers in hex, with a byte between two.
-pub fn push_hexes(draft: Draft, separator: u8, numbers: &[u16]) -> Draft
-    ensures { λ r. ⌜ r ≡ appended draft (joined (separator ∷ []) hexText (now (numbers .entry))) ⌝ }
+pub fn push_hexes(text: &mut [u8], at: usize, separator: u8, numbers: &[u16]) -> usize
+    ensures { λ r. ⌜ drafted (now (text .exit)) r ≡ appended (drafted (now (text .entry)) at) (joined (separator ∷ []) hexText (now (numbers .entry))) ⌝ }
 {
-    push_numbers(draft, 16, separator, numbers)
+    push_numbers(text, at, 16, separator, numbers)
 }

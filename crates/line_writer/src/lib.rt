@@ -61,14 +61,13 @@ pub fn write_line(record: Record, out: &mut [u8]) -> Written
         × Means «record» (length (now (out .entry))) (toldWritten r)
         × ReadsBack «record» (toldWritten r) (now (out .exit)) ⌝ }
 {
-    let draft = line(record);
-    let bytes = draft.bytes;
-    let n = draft.length;
+    let mut text = [0u8; 104];
+    let n = line(record, &mut text);
     let answer = check(record, n, out.len());
     let written = is_written(answer);
     if !written {
         return answer;
     }
-    put(&bytes[..n], out, 0);
+    put(&text[..n], out, 0);
     answer
 }

@@ -1,8 +1,6 @@
 // The program's answer line. No public function has a `requires`.
 use answer::Reading;
 use answer::Verdict;
-use draft::Draft;
-use draft::empty;
 use draft::push;
 use draft::push_decimal;
 use draft::push_word;
@@ -10,58 +8,75 @@ use libc::STDOUT_FILENO;
 use record::Kind;
 use record::Transport;
 ghost use mathlib.Core.Path.{_≡_};
+ghost use Prim.Native.Nat.{_≤_};
+ghost use lib.ListN.{length};
 ghost use Rattle.record.specs.Kinds.{transportWord, kindWord};
-ghost use Rattle.draft.specs.Drafts.{draftOf, appended};
+ghost use Rattle.draft.specs.Drafts.{drafted, appended};
 ghost use Rattle.report.specs.Line.{answerLine};
 
-fn push_transport(draft: Draft, transport: Transport) -> Draft
-    ensures { λ r. ⌜ r ≡ appended draft (transportWord transport) ⌝ }
+fn push_transport(text: &mut [u8], at: usize, transport: Transport) -> usize
+    ensures { λ r. ⌜ drafted (now (text .exit)) r ≡ appended (drafted (now (text .entry)) at) (transportWord transport) ⌝ }
 {
     match transport {
-        Transport::Stream => push_word(draft, b"-stream"),
-        Transport::Datagram => push_word(draft, b"-datagram"),
+        Transport::Stream => push_word(text, at, b"-stream"),
+        Transport::Datagram => push_word(text, at, b"-datagram"),
     }
 }
 
 // The word of a kind.
-fn push_kind(draft: Draft, kind: Kind) -> Draft
-    ensures { λ r. ⌜ r ≡ appended draft (kindWord kind) ⌝ }
+fn push_kind(text: &mut [u8], at: usize, kind: Kind) -> usize
+    ensures { λ r. ⌜ drafted (now (text .exit)) r ≡ appended (drafted (now (text .entry)) at) (kindWord kind) ⌝ }
 {
     match kind {
-        Kind::Local => push_word(draft, b"local"),
-        Kind::Unspecified => push_word(draft, b"unspecified"),
-        Kind::Ip4(transport) => push_transport(push_word(draft, b"ip4"), transport),
-        Kind::Ip6(transport) => push_transport(push_word(draft, b"ip6"), transport),
-        Kind::Unix(transport) => push_transport(push_word(draft, b"unix"), transport),
+        Kind::Local => push_word(text, at, b"local"),
+        Kind::Unspecified => push_word(text, at, b"unspecified"),
+        Kind::Ip4(transport) => {
+            let at = push_word(text, at, b"ip4");
+            push_transport(text, at, transport)
+        }
+        Kind::Ip6(transport) => {
+            let at = push_word(text, at, b"ip6");
+            push_transport(text, at, transport)
+        }
+        Kind::Unix(transport) => {
+            let at = push_word(text, at, b"unix");
+            push_transport(text, at, transport)
+        }
     }
 }
 
-// `more`, `refused 3 at 13`, or `accepted 47 ip4-stream`, and LF: 9 + 20 + 1 + 13 + 1 = 44 bytes at most.
-pub fn answer_line(reading: Reading) -> Draft
-    ensures { λ r. ⌜ r ≡ draftOf (answerLine reading) ⌝ }
+// Puts `more`, `refused 3 at 13`, or `accepted 47 ip4-stream`, and LF, at the front of the text, as far as there is room, and answers its length:
+// 9 + 20 + 1 + 13 + 1 = 44 bytes at most.
+pub fn answer_line(reading: Reading, text: &mut [u8]) -> usize
+    ensures { λ r. ⌜ (drafted (now (text .exit)) r ≡ appended (drafted (now (text .entry)) 0) (answerLine reading))
+        × (length (answerLine reading) ≤ 104) ⌝ }
 {
     let verdict = reading.verdict;
     let record = reading.record;
     let kind = record.kind;
     match verdict {
         Verdict::Accepted { length, version: _ } => {
-            let counted = push_decimal(push_word(empty(), b"accepted "), length as u64);
-            push(push_kind(push(counted, b' '), kind), b'\n')
+            let at = push_word(text, 0, b"accepted ");
+            let at = push_decimal(text, at, length as u64);
+            let at = push(text, at, b' ');
+            let at = push_kind(text, at, kind);
+            push(text, at, b'\n')
         }
-        Verdict::More { least: _ } => push_word(empty(), b"more\n"),
+        Verdict::More { least: _ } => push_word(text, 0, b"more\n"),
         Verdict::Refused { refusal, place } => {
             let number = answer::refusal_number(refusal) as u64;
-            let place = place as u64;
-            let numbered = push_decimal(push_word(empty(), b"refused "), number);
-            push(push_decimal(push_word(numbered, b" at "), place), b'\n')
+            let at = push_word(text, 0, b"refused ");
+            let at = push_decimal(text, at, number);
+            let at = push_word(text, at, b" at ");
+            let at = push_decimal(text, at, place as u64);
+            push(text, at, b'\n')
         }
     }
 }
 
 // Writes the line to standard output, in one piece.
 pub fn print_reading(reading: Reading) {
-    let line = answer_line(reading);
-    let bytes = line.bytes;
-    let n = line.length;
-    io::write_all(STDOUT_FILENO, &bytes[..n]);
+    let mut text = [0u8; 104];
+    let n = answer_line(reading, &mut text);
+    io::write_all(STDOUT_FILENO, &text[..n]);
 }
