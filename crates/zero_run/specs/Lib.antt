@@ -1,0 +1,3 @@
+pub mod ZeroRun
+pub mod Longest
+pub mod RunLaws
