@@ -1,5 +1,5 @@
 /*
- * Writes a connection as a version 1 line and as a version 2 header with a TLV, stores it and loads it again.
+ * Writes a connection as a version 1 line and as a version 2 header with a TLV, stores it and loads it again; then an IPv6 line.
  */
 #include <dawnhawse.h>
 #include <stdio.h>
@@ -13,9 +13,24 @@ static void print_bytes(const char *what, const uint8_t *bytes, uint64_t length)
     puts("");
 }
 
+/* Whether the version 1 line could be written. */
+static int print_line(const uint8_t *connection)
+{
+    uint8_t line[DAWNHAWSE_LONGEST_V1];
+    uint64_t numbers[DAWNHAWSE_NUMBERS];
+    int size;
+    if (dawnhawse_write_v1(connection, DAWNHAWSE_CONNECTION, line, sizeof line, numbers, DAWNHAWSE_NUMBERS) != DAWNHAWSE_WRITTEN)
+        return 0;
+    size = (int)numbers[DAWNHAWSE_WRITTEN_LENGTH];
+    printf("version 1, %d bytes with CR LF:\n    %.*s\n", size, size - 2, (const char *)line);
+    return 1;
+}
+
 int main(void)
 {
     static const uint8_t source[] = {192, 168, 0, 1}, destination[] = {192, 168, 0, 11};
+    static const uint8_t source6[] = {0x20, 0x01, 0x0d, 0xb8, 0, 0, 0, 0, 0, 1, 0, 0, 0, 0, 0, 1};
+    static const uint8_t destination6[] = {0x20, 0x01, 0x0d, 0xb8, 0, 0, 0, 0, 0, 0, 0, 0, 0, 0, 0, 2};
     static const uint8_t alpn[] = {0x01, 0, 2, 'h', '2'};
     uint64_t numbers[DAWNHAWSE_NUMBERS];
     uint8_t line[DAWNHAWSE_LONGEST_V1];
@@ -34,11 +49,8 @@ int main(void)
     connection[DAWNHAWSE_DESTINATION_PORT] = 443 / 256;
     connection[DAWNHAWSE_DESTINATION_PORT + 1] = 443 % 256;
 
-    answer = dawnhawse_write_v1(connection, sizeof connection, line, sizeof line, numbers, DAWNHAWSE_NUMBERS);
-    if (answer != DAWNHAWSE_WRITTEN)
+    if (!print_line(connection))
         return 1;
-    size = numbers[DAWNHAWSE_WRITTEN_LENGTH];
-    printf("version 1, %d bytes with CR LF:\n    %.*s\n", (int)size, (int)size - 2, (const char *)line);
 
     answer = dawnhawse_write_v2(connection, sizeof connection, alpn, sizeof alpn, header, sizeof header, numbers,
                                 DAWNHAWSE_NUMBERS);
@@ -64,5 +76,10 @@ int main(void)
     connection[DAWNHAWSE_KIND] = DAWNHAWSE_IP4_DATAGRAM;
     answer = dawnhawse_write_v1(connection, sizeof connection, line, sizeof line, numbers, DAWNHAWSE_NUMBERS);
     printf("version 1 of a datagram: %s\n", dawnhawse_answer_name(answer));
-    return 0;
+
+    /* IPv6 addresses are written by RFC 5952: of the two runs of zero groups in the first, as long as each other, the first is "::". */
+    connection[DAWNHAWSE_KIND] = DAWNHAWSE_IP6_STREAM;
+    memcpy(connection + DAWNHAWSE_SOURCE, source6, sizeof source6);
+    memcpy(connection + DAWNHAWSE_DESTINATION, destination6, sizeof destination6);
+    return !print_line(connection);
 }

@@ -44,10 +44,10 @@
 #include <stdint.h>
 
 /* The release of the library; README says what each of its numbers counts. */
-#define DAWNHAWSE_RELEASE "0.6.1"
+#define DAWNHAWSE_RELEASE "0.7.0"
 #define DAWNHAWSE_RELEASE_MAJOR 0
-#define DAWNHAWSE_RELEASE_MINOR 6
-#define DAWNHAWSE_RELEASE_PATCH 1
+#define DAWNHAWSE_RELEASE_MINOR 7
+#define DAWNHAWSE_RELEASE_PATCH 0
 
 #ifdef __cplusplus
 extern "C" {
@@ -322,7 +322,9 @@ uint32_t dawnhawse_lookup(const uint8_t *area, size_t area_len, uint8_t wanted, 
 
 /*
  * Writes the version 1 line of a connection to the front of the output. Version 1 carries IPv4 stream, IPv6 stream and
- * unspecified.
+ * unspecified. IPv6 addresses are written by RFC 5952, section 4: lower case, no leading zeros, and the longest run of two or more
+ * zero groups, the first of equals, as "::"; never with a dotted tail, so ::ffff:192.0.2.1 is written ::ffff:c000:201. Two
+ * lines that are written are the same only if the connections are. A TCP6 line has 22 to 104 bytes.
  *
  *   connection, connection_len   exactly DAWNHAWSE_CONNECTION bytes; not altered
  *   out, out_len                 the output, of which DAWNHAWSE_LONGEST_V1 bytes are enough; bytes past the line stay as they were

@@ -120,6 +120,23 @@ static void prepare(const struct kind *kind, uint8_t state, int byte)
     memcpy(bytes, tlvs, length);
 }
 
+/* IPv6 lines of every choice of zero groups, among others of four digits. */
+static void zero_groups(void)
+{
+    static const struct kind ip6 = {DAWNHAWSE_IP6_STREAM, 16, 2};
+
+    for (int zeros = 0; zeros < 256; zeros++) {
+        prepare(&ip6, DAWNHAWSE_CHECKSUM_ABSENT, 0xff);
+        for (int group = 0; group < 8; group++) {
+            if (zeros >> group & 1) {
+                memset(connection + DAWNHAWSE_SOURCE + 2 * group, 0, 2);
+                memset(connection + DAWNHAWSE_DESTINATION + 2 * group, 0, 2);
+            }
+        }
+        measure(do_write_v1);
+    }
+}
+
 /* Reads or moves what a writer has written of such a connection; moves it once more without room. */
 static void read_back(const struct kind *kind, uint8_t state, void (*write)(void), void (*call)(void))
 {
@@ -206,6 +223,7 @@ int main(void)
         beginnings(do_crc32c, strlen(lines[i]));
         beginnings(do_doorman, strlen(lines[i]));
     }
+    zero_groups();
     for (const struct kind *kind = kinds; kind < kinds + sizeof kinds / sizeof *kinds; kind++) {
         for (int byte = 0; byte < 256; byte++) {
             for (uint8_t state = DAWNHAWSE_CHECKSUM_ABSENT; state <= DAWNHAWSE_CHECKSUM_MATCHED; state++) {

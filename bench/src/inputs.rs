@@ -7,6 +7,8 @@ pub enum Call {
     Read,
     /// The header's checksum is compared.
     ReadChecked,
+    /// A connection is written as a version 1 line.
+    WriteLine,
     /// A connection is stored in version 2.
     Store,
     /// A stored form of version 2 is loaded.
@@ -41,7 +43,7 @@ impl Input {
         let place = match self.call {
             Call::Read => return None,
             Call::ReadChecked => self.bytes.len() - 1,
-            Call::Store | Call::Load | Call::Forward => 0,
+            Call::WriteLine | Call::Store | Call::Load | Call::Forward => 0,
             Call::Admit => self.bytes.len() - UNIQUE_ID.len() - 3,
         };
         let mut spoilt = self.bytes.clone();
@@ -63,7 +65,10 @@ pub fn inputs() -> Vec<Input> {
         Input { first: 1, ..taken("scraps", "longest TCP6, byte by byte", Call::Read, LONGEST_TCP6.to_vec()) },
         taken("v2-checked", "version 2, checked", Call::ReadChecked, with_checksum(200)),
         taken("v2-longest-checked", "version 2, longest, checked", Call::ReadChecked, with_checksum(65551)),
-        taken("store", "IPv4, stored", Call::Store, connection()),
+        taken("write-tcp4", "version 1, TCP4, written", Call::WriteLine, connection(0x11, &SOURCE, &DESTINATION, 0)),
+        taken("write-tcp6", "version 1, TCP6, written", Call::WriteLine, connection(0x21, &SHORTENED, &SHORTENED_TO, 0)),
+        taken("write-longest", "version 1, longest, written", Call::WriteLine, connection(0x21, &[0xff; 16], &[0xff; 16], 0)),
+        taken("store", "IPv4, stored", Call::Store, connection(0x11, &SOURCE, &DESTINATION, 1)),
         taken("load", "IPv4, loaded", Call::Load, form(&[2, 0x11, 1])),
         taken("forward", "IPv4, moved forward", Call::Forward, form(&[1, 0x11])),
         Input { table: table(), ..taken("admit", "IPv6, a table of 64 rows", Call::Admit, with_tlvs()) },
@@ -81,16 +86,20 @@ fn taken(name: &'static str, what: &'static str, call: Call, bytes: Vec<u8>) -> 
 const SOURCE: [u8; 4] = [192, 168, 0, 1];
 const DESTINATION: [u8; 4] = [192, 168, 0, 11];
 
+/// fe80::1c2a:3bff:fe4d:5e6f and 2001:db8::1.
+const SHORTENED: [u8; 16] = [0xfe, 0x80, 0, 0, 0, 0, 0, 0, 0x1c, 0x2a, 0x3b, 0xff, 0xfe, 0x4d, 0x5e, 0x6f];
+const SHORTENED_TO: [u8; 16] = [0x20, 0x01, 0x0d, 0xb8, 0, 0, 0, 0, 0, 0, 0, 0, 0, 0, 0, 1];
+
 /// 56324 and 443.
 const PORTS: [u8; 4] = [0xDC, 0x04, 0x01, 0xBB];
 
-/// An IPv4 connection whose checksum matched.
-fn connection() -> Vec<u8> {
-    let unused = [0; 108 - 4];
-    [&[0x11][..], &SOURCE, &unused, &DESTINATION, &unused, &PORTS, &[1]].concat()
+/// A connection of this kind and checksum state.
+fn connection(kind: u8, source: &[u8], destination: &[u8], state: u8) -> Vec<u8> {
+    let unused = vec![0; 108 - source.len()];
+    [&[kind][..], source, &unused, destination, &unused, &PORTS, &[state]].concat()
 }
 
-/// Its stored form, with this between the mark and the address block.
+/// The stored form of one of IPv4, with this between the mark and the address block.
 fn form(head: &[u8]) -> Vec<u8> {
     [b"CSR\0", head, &SOURCE, &DESTINATION, &PORTS].concat()
 }

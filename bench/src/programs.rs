@@ -8,6 +8,7 @@ extern "C" {
     /// include/dawnhawse.h
     fn dawnhawse_read(bytes: *const u8, bytes_len: usize, numbers: *mut u64, numbers_len: usize, connection: *mut u8, connection_len: usize) -> u32;
     fn dawnhawse_read_checked(bytes: *const u8, bytes_len: usize, numbers: *mut u64, numbers_len: usize, connection: *mut u8, connection_len: usize) -> u32;
+    fn dawnhawse_write_v1(connection: *const u8, connection_len: usize, out: *mut u8, out_len: usize, numbers: *mut u64, numbers_len: usize) -> u32;
     fn dawnhawse_store_v2(connection: *const u8, connection_len: usize, out: *mut u8, out_len: usize, numbers: *mut u64, numbers_len: usize) -> u32;
     fn dawnhawse_load_v2(stored: *const u8, stored_len: usize, connection: *mut u8, connection_len: usize) -> u32;
     fn dawnhawse_forward(stored: *const u8, stored_len: usize, out: *mut u8, out_len: usize, numbers: *mut u64, numbers_len: usize) -> u32;
@@ -19,13 +20,15 @@ extern "C" {
     fn stored_write(connection: *const u8, out: *mut u8, room: usize, length: *mut u64) -> u32;
     fn stored_load(form: *const u8, n: usize, connection: *mut u8) -> u32;
     fn stored_forward(form: *const u8, n: usize, out: *mut u8, room: usize, length: *mut u64) -> u32;
+    /// writer.h
+    fn writer_line(connection: *const u8, out: *mut u8, room: usize, length: *mut u64) -> u32;
     /// admit.h
     fn admit(table: *const u8, size: usize, bytes: *const u8, n: usize, caller: *mut [u64; 4]) -> u32;
 }
 
 /// What a program tells of an accepted header: length, version, the TLV area's start and length, and the connection. The C parser's
-/// header is laid out so. Of a stored form: its length where one is written, and its bytes or the connection that it holds. Of an
-/// admitted header: level, length, the unique ID's start and length, as admit.h lays them out.
+/// header is laid out so. Of a line or a stored form: its length where one is written, and its bytes or the connection that it holds. Of
+/// an admitted header: level, length, the unique ID's start and length, as admit.h lays them out.
 #[repr(C)]
 #[derive(Debug, PartialEq)]
 pub struct Told {
@@ -80,6 +83,7 @@ impl Program {
         match input.call {
             Call::Read => self.repeat(Call::Read, input, count),
             Call::ReadChecked => self.repeat(Call::ReadChecked, input, count),
+            Call::WriteLine => self.repeat(Call::WriteLine, input, count),
             Call::Store => self.repeat(Call::Store, input, count),
             Call::Load => self.repeat(Call::Load, input, count),
             Call::Forward => self.repeat(Call::Forward, input, count),
@@ -125,6 +129,7 @@ fn library(call: Call, table: &[u8], input: &[u8], Told { numbers, bytes }: &mut
         match call {
             Call::Read => dawnhawse_read(from, length, numbers, told, bytes, room),
             Call::ReadChecked => dawnhawse_read_checked(from, length, numbers, told, bytes, room),
+            Call::WriteLine => dawnhawse_write_v1(from, length, bytes, room, numbers, told),
             Call::Store => dawnhawse_store_v2(from, length, bytes, room, numbers, told),
             Call::Load => dawnhawse_load_v2(from, length, bytes, room),
             Call::Forward => dawnhawse_forward(from, length, bytes, room, numbers, told),
@@ -137,12 +142,13 @@ fn library(call: Call, table: &[u8], input: &[u8], Told { numbers, bytes }: &mut
 fn c(call: Call, table: &[u8], input: &[u8], told: &mut Told) -> u32 {
     let (from, length) = (input.as_ptr(), input.len());
     let (bytes, room) = (told.bytes.as_mut_ptr(), told.bytes.len());
-    // SAFETY: table and input are valid for their lengths, and the input is a connection where one is stored; what is told has the layout
-    // of the parser's header, and its numbers that of an admitted caller.
+    // SAFETY: table and input are valid for their lengths, and the input is a connection where one is written or stored; what is told has
+    // the layout of the parser's header, and its numbers that of an admitted caller.
     unsafe {
         match call {
             Call::Read => parser_read(from, length, told),
             Call::ReadChecked => parser_read_checked(from, length, told),
+            Call::WriteLine => writer_line(from, bytes, room, &mut told.numbers[0]),
             Call::Store => stored_write(from, bytes, room, &mut told.numbers[0]),
             Call::Load => stored_load(from, length, bytes),
             Call::Forward => stored_forward(from, length, bytes, room, &mut told.numbers[0]),
@@ -162,6 +168,7 @@ fn second(call: Call, table: &[u8], input: &[u8], Told { numbers, bytes }: &mut 
             *bytes = connection::bytes(&record);
             0
         }),
+        Call::WriteLine => connection::record(input).and_then(|record| second::write_v1(&record, bytes).map_err(u32::from)),
         Call::Store => connection::record(input).and_then(|record| second::store(StoredVersion::Two, &record, bytes).map_err(u32::from)),
         Call::Forward => second::forward(input, bytes).map_err(u32::from),
     };

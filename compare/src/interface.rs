@@ -105,19 +105,23 @@ pub fn address_block(connection: &[u8]) -> usize {
     connection::record(connection).map_or(0, |record| record.kind.address_block_length())
 }
 
-/// Version 1 lines in every room; what is written reads back.
+/// Version 1 lines in every room.
 pub fn lines(random: &mut Random, count: usize) -> Outcome {
     let mut outcome = Outcome::new("version 1 lines");
     for _ in 0..count {
         let connection = records::any(random);
-        let numbers = numbers(random);
-        for room in rooms(104) {
-            let here = library::write_v1(&connection, room, numbers);
-            reads_back(&mut outcome, &here, &connection);
-            outcome.same(&here, &expected::write_v1(&connection, room, numbers), || format!("{} with {numbers} numbers in {room} bytes", hex(&connection)));
-        }
+        line(&mut outcome, &connection, numbers(random));
     }
     outcome
+}
+
+/// The version 1 line of a connection in every room; what is written reads back.
+pub fn line(outcome: &mut Outcome, connection: &[u8], numbers: usize) {
+    for room in rooms(104) {
+        let here = library::write_v1(connection, room, numbers);
+        reads_back(outcome, &here, connection);
+        outcome.same(&here, &expected::write_v1(connection, room, numbers), || format!("{} with {numbers} numbers in {room} bytes", hex(connection)));
+    }
 }
 
 /// Version 2 headers with whole and damaged TLV areas, now and then of 65,535 bytes and about, in every room; what is written reads back.

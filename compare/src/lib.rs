@@ -2,7 +2,7 @@
 //! other what it must leave, `interface` compares the two on inputs made in `inputs` and `headers`, and `whole` on every prefix of whole headers.
 //! The checksum (document 02, K6) has its inputs in `checksum_headers`, and is compared in `crc32c`, `checked_reading` and `checked_writing`; stored forms
 //! (K7) are compared in `stored`. The profile of diagnostics (K14) has its inputs in `prefix_tables` and `admission_headers`, and is compared in `admission`.
-//! The library is held to the rules of joined TLV areas (K13) in `joining`.
+//! The library is held to the rules of joined TLV areas (K13) in `joining`, and to what others write for an IPv6 address (K3) in `ip6_text`.
 pub mod admission;
 pub mod admission_headers;
 pub mod checked_reading;
@@ -14,6 +14,7 @@ pub mod expected;
 pub mod headers;
 pub mod inputs;
 pub mod interface;
+pub mod ip6_text;
 pub mod joining;
 pub mod library;
 pub mod outcome;

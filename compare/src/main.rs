@@ -4,7 +4,7 @@ mod programs;
 
 use compare::inputs::{self, Group};
 use compare::random::Random;
-use compare::{admission, checked_reading, checked_writing, crc32c, hex, interface, joining, stored, whole};
+use compare::{admission, checked_reading, checked_writing, crc32c, hex, interface, ip6_text, joining, stored, whole};
 use std::path::{Path, PathBuf};
 
 const SEED: u64 = 0x0D0A_0D0A_000D_0A51;
@@ -29,6 +29,9 @@ fn main() {
         joining::long(),
         joining::generated(&mut random, GENERATED / 100),
         interface::lines(&mut random, GENERATED / 40),
+        ip6_text::published(),
+        ip6_text::zeros(),
+        ip6_text::generated(&mut random, GENERATED / 40),
         interface::blocks(&mut random, GENERATED / 40),
         stored::records(&mut random, GENERATED / 20),
         stored::forms(&mut random, GENERATED * 5),

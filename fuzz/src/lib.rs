@@ -1,6 +1,7 @@
-//! A libFuzzer target: the C library and the second program on the same input, and the library's answers to joined areas. A difference ends the run.
+//! A libFuzzer target: the C library and the second program on the same input, the library's answers to joined areas, and IPv6 text beside inet_ntop's. A
+//! difference ends the run.
 use compare::connection::SIZE;
-use compare::{checksum_headers, expected, hex, joining, library, same, STORED_VERSIONS};
+use compare::{checksum_headers, expected, hex, ip6_text, joining, library, same, STORED_VERSIONS};
 
 /// # Safety
 /// As libFuzzer calls it: size bytes are lent behind data.
@@ -16,7 +17,7 @@ pub unsafe extern "C" fn LLVMFuzzerTestOneInput(data: *const u8, size: usize) ->
 }
 
 /// The first byte chooses the function (its low five bits) and how many numbers are lent, the next two are a room, a place, a limit, a type and
-/// how many bytes the first of two areas has, or how many rows and further bytes the input begins with, and the rest is the input.
+/// how many bytes stand before the second of two areas or addresses, or how many rows and further bytes the input begins with, and the rest is the input.
 fn compare(input: &[u8]) -> Result<(), String> {
     let [choice, high, low, input @ ..] = input else { return Ok(()) };
     let numbers = match choice >> 5 {
@@ -51,7 +52,13 @@ fn compare(input: &[u8]) -> Result<(), String> {
         }
         // The limit is what is otherwise the choice of how many numbers are lent.
         17 => return joining::lookup_rule(first, second, *high, usize::from(choice >> 5)),
+        18 => return ip6_text::as_inet_ntop(&address(input), &address(second)).map(drop),
         _ => (library::doorman(table, bytes, numbers), expected::doorman(table, bytes, numbers)),
     };
     same(&here, &there, || format!("function {}, {number}, {numbers} numbers, {}", choice & 31, hex(input)))
+}
+
+/// The first sixteen bytes; zeros where there are fewer.
+fn address(input: &[u8]) -> [u8; 16] {
+    std::array::from_fn(|i| input.get(i).copied().unwrap_or(0))
 }

@@ -1,7 +1,7 @@
 //! The long run: the C library against the second program until so many inputs are compared. A round's seed is printed with a difference.
 //! Usage: long HOW-MANY [FIRST-SEED]
 use compare::random::Random;
-use compare::{admission, checked_reading, checked_writing, crc32c, headers, inputs, interface, joining, stored, whole};
+use compare::{admission, checked_reading, checked_writing, crc32c, headers, inputs, interface, ip6_text, joining, stored, whole};
 use std::time::{Duration, Instant};
 
 /// Headers read, and areas and records made, in a round.
@@ -48,6 +48,7 @@ fn round(short: &[Vec<u8>], seed: u64) -> Vec<(usize, Option<String>)> {
         interface::lookups(&mut random, MADE),
         joining::generated(&mut random, MADE),
         interface::lines(&mut random, MADE),
+        ip6_text::generated(&mut random, MADE),
         interface::blocks(&mut random, MADE),
         stored::records(&mut random, MADE),
         stored::forms(&mut random, READ),

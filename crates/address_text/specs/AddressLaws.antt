@@ -1,11 +1,17 @@
--- For proofs. How the octets and groups of an address lie in its bytes.
+-- For proofs. How the octets and groups of an address lie in its bytes, and the two ways in which groups are written.
 use mathlib.Core.Path.{_≡_, refl, sym, ap, ap₂, _∙_}
+use mathlib.Core.Bool.{true, false}
 use mathlib.Core.List.{List, [], _∷_}
 use Prim.Native.Nat.{ℕ, zero, suc, _+_, _≤_, _<_}
 use native.Mathlib.Omega.{arith}
 use lib.ListN.{length, take, getD}
+use borrow.Author.Tests.{leb-true, leb-false}
+use Rattle.exact.specs.Pick.{pick-by}
 use Rattle.exact.specs.Network.{number, numberAt}
-use Rattle.address_text.specs.Addresses.{groupsOf}
+use Rattle.decimal.specs.Decimal.{Plain}
+use Rattle.zero_run.specs.declared.Run.{Run}
+use Rattle.zero_run.specs.ZeroRun.{longestRun}
+use Rattle.address_text.specs.Addresses.{colonText, shortenedText, isReplaced, groupsText, groupsOf}
 
 pub groups-count : (n : ℕ) (bytes : List ℕ) → length bytes ≡ n + n → length (groupsOf bytes) ≡ n
 groups-count zero [] size = refl
@@ -30,3 +36,27 @@ four (a ∷ []) size = absurd (omega arith)
 four (a ∷ b ∷ []) size = absurd (omega arith)
 four (a ∷ b ∷ c ∷ []) size = absurd (omega arith)
 four (a ∷ b ∷ c ∷ d ∷ s) size = refl
+
+pub plain-some : (f : List ℕ) → Plain f → 1 ≤ length f
+plain-some [] plain = absurd plain
+plain-some (c ∷ f) plain = omega arith
+
+-- "of two or more"
+pub replaced-two : (run : Run) → isReplaced run ≡ true → 2 ≤ run .count
+replaced-two run t = leb-true 2 (run .count) t
+
+pub replaced-few : (run : Run) → isReplaced run ≡ false → run .count < 2
+replaced-few run t = leb-false 2 (run .count) t
+
+-- with "::" for a run of two or more, and else in full
+pub text-shortened : (groups : List ℕ) → 2 ≤ longestRun groups .count → groupsText groups ≡ shortenedText (longestRun groups) groups
+unfolding groupsText
+text-shortened groups two =
+    pick-by (λ (f : List ℕ). f ≡ shortenedText (longestRun groups) groups) (isReplaced (longestRun groups)) (λ t. refl)
+    (λ t. let few = replaced-few (longestRun groups) t in absurd (omega arith))
+
+pub text-full : (groups : List ℕ) → longestRun groups .count < 2 → groupsText groups ≡ colonText groups
+unfolding groupsText
+text-full groups few =
+    pick-by (λ (f : List ℕ). f ≡ colonText groups) (isReplaced (longestRun groups))
+    (λ t. let two = replaced-two (longestRun groups) t in absurd (omega arith)) (λ t. refl)

@@ -1,7 +1,9 @@
 // An address as version 1 text (document 01, "The text line"). No public function has a `requires`.
 use draft::push_decimals;
 use draft::push_hexes;
+use draft::push_word;
 use exact::number;
+use zero_run::longest_run;
 ghost use mathlib.Core.Path.{_≡_};
 ghost use lib.ListN.{take};
 ghost use Rattle.draft.specs.Drafts.{drafted, appended};
@@ -14,11 +16,18 @@ fn push_octets(text: &mut [u8], at: usize, octets: [u16; 4]) -> usize
     push_decimals(text, at, b'.', &octets)
 }
 
-// IPv6 text: eight groups with colons.
+// IPv6 text: eight groups with colons, "::" in place of the longest run of two or more zeros.
 fn push_groups(text: &mut [u8], at: usize, groups: [u16; 8]) -> usize
     ensures { λ r. ⌜ drafted (now (text .exit)) r ≡ appended (drafted (now (text .entry)) at) (groupsText groups) ⌝ }
 {
-    push_hexes(text, at, b':', &groups)
+    let run = longest_run(groups);
+    if run.count < 2 {
+        return push_hexes(text, at, b':', &groups);
+    }
+    let behind = run.before + run.count;
+    let at = push_hexes(text, at, b':', &groups[..run.before]);
+    let at = push_word(text, at, b"::");
+    push_hexes(text, at, b':', &groups[behind..])
 }
 
 // A byte as a number.

@@ -1,8 +1,8 @@
 -- Demand 2 of document 01 for version 1: what the writer writes reads back as the record, and it refuses exactly the records that version 1 cannot carry
 -- and the outputs that are too short.
-use mathlib.Core.Path.{_≡_, refl, sym, _∙_, subst}
+use mathlib.Core.Path.{_≡_, refl, sym, ap, _∙_, subst}
 use mathlib.Core.Bool.{true}
-use mathlib.Core.List.{List, _++_}
+use mathlib.Core.List.{List, [], _++_}
 use mathlib.Core.Logic.{inl}
 use Prim.Native.Nat.{ℕ, _≤_, _<_}
 use native.Mathlib.Omega.{arith}
@@ -19,15 +19,15 @@ use Rattle.record.specs.declared.Record.{Record}
 use Rattle.record.specs.Records.{Plain, Sized}
 use Rattle.clean.specs.Unused.{plainTest}
 use Rattle.clean.specs.UnusedLaws.{plain-test}
-use Rattle.header.specs.Header.{Whole}
+use Rattle.header.specs.Header.{Header, Whole}
 use Rattle.header.specs.Demand.{Judges}
 use Rattle.fields.specs.LineFields.{lined}
-use Rattle.fields.specs.Facts.{longest-tcp4, longest-tcp6}
+use Rattle.fields.specs.Exactness.{one-header}
 use Rattle.answer.specs.Answers.{WriteAnswer, wrote, refuses, outputAfter}
 use Rattle.answer.specs.OutputLaws.{not-wrote, written-front}
 use Rattle.line_text.specs.LineText.{writtenLine}
 use Rattle.line_writer.specs.Written.{HasForm, unspecified, tcp4, tcp6, hasForm, CarriedByLine, lineAnswer}
-use Rattle.line_writer.specs.LineLaws.{line-of, tcp4-line, tcp6-line}
+use Rattle.line_writer.specs.LineLaws.{line-of}
 
 form-tested : (k : Kind) → hasForm k ≡ true → HasForm k
 form-tested Local e = never e
@@ -104,15 +104,8 @@ reads-back r before after sized output n is t =
     let front = written-front (writtenLine r) before after (lineAnswer r (length before)) n is size output in
     subst (λ (f : List ℕ). Judges (accepted (lined r) n) (f ++ t)) (sym front) (line-demand r (length before) n sized is t)
 
--- "Longest TCP4 line 56 bytes, TCP6 104"; an UNKNOWN line is written with 15
-pub longest4 : (r : Record) → CarriedByLine r → r .kind ≡ Ip4 Stream → length (writtenLine r) ≤ 56
-unfolding writtenLine
-longest4 r w kind = rw kind (longest-tcp4 _ r (tcp4-line r kind (w .sized) (w .plain)))
-
-pub longest6 : (r : Record) → CarriedByLine r → r .kind ≡ Ip6 Stream → length (writtenLine r) ≤ 104
-unfolding writtenLine
-longest6 r w kind = rw kind (longest-tcp6 _ r (tcp6-line r kind (w .sized) (w .plain)))
-
-pub unknown-length : (r : Record) → r .kind ≡ Unspecified → length (writtenLine r) ≡ 15
-unfolding writtenLine
-unknown-length r kind = rw kind
+-- "Log tools compare our lines as strings" (document 02, K3): the same line is the same record
+pub same-line : (r other : Record) → CarriedByLine r → CarriedByLine other → writtenLine r ≡ writtenLine other → r ≡ other
+same-line r other w w′ e =
+    let whole = subst (λ (f : List ℕ). Whole f (lined other)) (sym e) (line-whole other w′) in
+    ap (λ (h : Header). h .«record») (one-header (writtenLine r) (writtenLine r) [] [] (lined other) (lined r) refl whole (line-whole r w) .1)

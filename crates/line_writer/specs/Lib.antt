@@ -1,3 +1,4 @@
 pub mod Written
 pub mod LineLaws
 pub mod Demand
+pub mod Lengths

@@ -1,9 +1,11 @@
-//! The version 1 writer (document 01, The text line).
+//! The version 1 writer (document 01, The text line; document 02, K3).
 
 use crate::output::write_whole;
 use crate::record::{Kind, Record, Transport};
 use crate::refusal::{NO_FORM, UNUSED_NOT_ZERO};
 use crate::unused::only_its_block;
+use std::cmp::min;
+use std::ops::Range;
 
 /// Writes the record's text line and gives its length, or refuses with 10, 11
 /// or 14, the first that holds.
@@ -37,9 +39,34 @@ fn ip4_address(octets: &[u8]) -> String {
     octets.join(".")
 }
 
-/// Eight groups, lower case, no leading zeros, never "::".
+/// RFC 5952, section 4, without a dotted tail (document 02, K3): of all ways to
+/// write the address the one that leaves the fewest groups, of equals the one
+/// with "::" first.
 fn ip6_address(bytes: &[u8]) -> String {
-    let group = |pair: &[u8]| format!("{:x}", 256 * u16::from(pair[0]) + u16::from(pair[1]));
     let groups: Vec<String> = bytes.chunks(2).map(group).collect();
-    groups.join(":")
+    let in_full = (groups.len(), 0, groups.join(":"));
+    let shortened = zero_ranges(&groups).map(|zeros| {
+        let left = groups.len() - zeros.len();
+        (left, zeros.start, shortened(&groups, zeros))
+    });
+    let (_, _, text) = shortened.fold(in_full, min);
+    text
+}
+
+/// Lower case, no leading zeros.
+fn group(pair: &[u8]) -> String {
+    format!("{:x}", 256 * u16::from(pair[0]) + u16::from(pair[1]))
+}
+
+/// All ranges of two or more groups that are zero, those within others too.
+fn zero_ranges(groups: &[String]) -> impl Iterator<Item = Range<usize>> + '_ {
+    let count = groups.len();
+    let ranges = (0..count).flat_map(move |start| (start + 2..=count).map(move |end| start..end));
+    ranges.filter(|range| groups[range.clone()].iter().all(|group| group == "0"))
+}
+
+/// The text with "::" in place of these groups.
+fn shortened(groups: &[String], zeros: Range<usize>) -> String {
+    let (before, behind) = (&groups[..zeros.start], &groups[zeros.end..]);
+    format!("{}::{}", before.join(":"), behind.join(":"))
 }
