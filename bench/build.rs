@@ -13,6 +13,7 @@ fn main() {
         println!("cargo:rerun-if-changed={name}.c");
         println!("cargo:rerun-if-changed={name}.h");
     }
+    println!("cargo:rerun-if-changed=unused.h");
     done(Command::new("ar").arg("crs").arg(format!("{out}/libusual.a")).args(NAMES.map(|name| format!("{out}/{name}.o"))));
     println!("cargo:rustc-link-search=native={out}");
     println!("cargo:rustc-link-lib=static=usual");

@@ -1,5 +1,6 @@
 /* stored.c: see stored.h. */
 #include "stored.h"
+#include "unused.h"
 #include <string.h>
 
 enum { HEAD_V1 = 6, HEAD_V2 = 7, NO_KIND = 255 };
@@ -25,26 +26,10 @@ static size_t port_length(size_t address)
     return address == 4 || address == 16 ? 2 : 0;
 }
 
-static int all_zero(const uint8_t *p, const uint8_t *end)
-{
-    while (p < end)
-        if (*p++ != 0)
-            return 0;
-    return 1;
-}
-
-int stored_unused_zero(const struct parser_connection *connection, size_t address, size_t port)
-{
-    return all_zero(connection->source + address, connection->source + 108)
-        && all_zero(connection->destination + address, connection->destination + 108)
-        && all_zero(connection->source_port + port, connection->source_port + 2)
-        && all_zero(connection->destination_port + port, connection->destination_port + 2);
-}
-
 enum parser_answer stored_write(const struct parser_connection *connection, uint8_t *out, size_t room, uint64_t *length)
 {
     size_t address = address_length(connection->kind), port = port_length(address), n = HEAD_V2 + 2 * (address + port);
-    if (address == NO_KIND || connection->checksum > (address > 0) || room < n || !stored_unused_zero(connection, address, port))
+    if (address == NO_KIND || connection->checksum > (address > 0) || room < n || !unused_zero(connection, address, port))
         return PARSER_REFUSED;
     memcpy(out, mark_v2, sizeof mark_v2);
     out[5] = connection->kind;

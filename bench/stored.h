@@ -7,9 +7,6 @@
 
 #include "parser.h"
 
-/* Whether the bytes behind addresses and ports of these lengths are zero. */
-int stored_unused_zero(const struct parser_connection *connection, size_t address, size_t port);
-
 /* Writes version 2 of the stored form, and its length; or refuses, and writes nothing. */
 enum parser_answer stored_write(const struct parser_connection *connection, uint8_t *out, size_t room, uint64_t *length);
 

@@ -1,7 +1,7 @@
 /* writer.c: see writer.h. */
 #define _POSIX_C_SOURCE 200112L
 #include "writer.h"
-#include "stored.h"
+#include "unused.h"
 #include <arpa/inet.h>
 #include <stdio.h>
 #include <string.h>
@@ -18,7 +18,7 @@ enum parser_answer writer_line(const struct parser_connection *connection, uint8
 {
     char source[INET6_ADDRSTRLEN], destination[INET6_ADDRSTRLEN], line[LINE];
     int six = connection->kind == 0x21, family = six ? AF_INET6 : AF_INET, n;
-    if ((!six && connection->kind != 0x11) || connection->checksum != 0 || !stored_unused_zero(connection, six ? 16 : 4, 2)
+    if ((!six && connection->kind != 0x11) || connection->checksum != 0 || !unused_zero(connection, six ? 16 : 4, 2)
         || inet_ntop(family, connection->source, source, sizeof source) == NULL
         || inet_ntop(family, connection->destination, destination, sizeof destination) == NULL)
         return PARSER_REFUSED;

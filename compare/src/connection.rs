@@ -3,6 +3,9 @@ use second::{Checksum, Kind, Record, Transport};
 
 pub const SIZE: usize = 222;
 
+/// Where the source stands.
+pub const SOURCE: usize = 1;
+
 /// Where the checksum state stands.
 pub const STATE: usize = 221;
 

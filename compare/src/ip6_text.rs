@@ -1,6 +1,6 @@
 //! IPv6 addresses in version 1 lines (document 02, K3), beside what others write: RFC 5952 in its examples, and the C library's inet_ntop. The second program
 //! writes each line too.
-use crate::connection::{self, SIZE};
+use crate::connection::{self, SIZE, SOURCE};
 use crate::outcome::Outcome;
 use crate::random::Random;
 use crate::{hex, interface, library, CONNECTION, NUMBERS};
@@ -18,7 +18,7 @@ const SOURCE_PORT: u16 = 1;
 const DESTINATION_PORT: u16 = 65_535;
 
 /// What RFC 5952 says is to be written, and spellings of the same address that it shows; by section.
-const PUBLISHED: [(&str, &[&str]); 13] = [
+const PUBLISHED: [(&str, &[&str]); 14] = [
     // 1
     (
         "2001:db8::1:0:0:1",
@@ -55,7 +55,8 @@ const PUBLISHED: [(&str, &[&str]); 13] = [
     // 4.1
     ("2001:db8::1", &["2001:0db8::0001"]),
     // 4.2.1
-    ("2001:db8::2:1", &["2001:db8:0:0:0:0:2:1", "2001:db8::0:0:2:1"]),
+    ("2001:db8::2:1", &["2001:db8:0:0:0:0:2:1"]),
+    ("2001:db8::1", &["2001:db8::0:1"]),
     // 4.2.2
     ("2001:db8:0:1:1:1:1:1", &["2001:db8:0:1:1:1:1:1", "2001:db8::1:1:1:1:1"]),
     // 4.2.3
@@ -66,7 +67,7 @@ const PUBLISHED: [(&str, &[&str]); 13] = [
     ("::1", &["0:0:0:0:0:0:0:1", "0::1"]),
 ];
 
-/// Each spelling is read, and what was read is written.
+/// Each spelling is read, and what was read is written, as inet_ntop does.
 pub fn published() -> Outcome {
     let mut outcome = Outcome::new("spellings of RFC 5952");
     for (written, spellings) in PUBLISHED {
@@ -75,6 +76,8 @@ pub fn published() -> Outcome {
             let connection = &read.bytes[..SIZE];
             outcome.holds(read.answer == 0, || format!("{spelling} is not read: {read}"));
             outcome.holds(text_of(connection) == line(written, written), || format!("{spelling} is written {:?}, not {written}", text_of(connection)));
+            let address = std::array::from_fn(|i| connection[SOURCE + i]);
+            outcome.add(as_inet_ntop(&address, &address).map(drop));
             interface::line(&mut outcome, connection, NUMBERS);
         }
     }

@@ -16,7 +16,7 @@ fn push_octets(text: &mut [u8], at: usize, octets: [u16; 4]) -> usize
     push_decimals(text, at, b'.', &octets)
 }
 
-// IPv6 text: eight groups with colons, "::" in place of the longest run of two or more zeros.
+// IPv6 text: eight groups with colons, "::" in place of the longest run of two or more zeros, the first of equals.
 fn push_groups(text: &mut [u8], at: usize, groups: [u16; 8]) -> usize
     ensures { λ r. ⌜ drafted (now (text .exit)) r ≡ appended (drafted (now (text .entry)) at) (groupsText groups) ⌝ }
 {

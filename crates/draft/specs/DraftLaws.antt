@@ -1,15 +1,15 @@
 -- For proofs. Texts put behind a draft, one after the other, and when they are the draft.
 use mathlib.Core.Path.{_≡_, refl, sym, ap, _∙_}
 use mathlib.Core.List.{List, [], _∷_, _++_, append-nil}
-use Prim.Native.Nat.{ℕ, suc, _-_, _≤_, _<_}
+use Prim.Native.Nat.{ℕ, suc, _≤_, _<_}
 use native.Mathlib.Omega.{arith}
 use native.Mathlib.Numerals.{add-one}
 use lib.Dec.{ltb}
-use lib.ListN.{length, take, replicate, length-append, length-set, length-replicate}
-use lib.Seq.{append-snoc, set-append-seam, take-append-seam}
+use lib.ListN.{length, take, drop, getD, length-append, length-drop, length-set}
+use lib.Seq.{append-snoc, drop-cons, set-append-seam, take-append-seam}
 use borrow.Author.Tests.{lt-ltb}
 use Rattle.exact.specs.Pick.{pick-by}
-use Rattle.draft.specs.Drafts.{Draft, draftOf, pushed, appended}
+use Rattle.draft.specs.Drafts.{Draft, drafted, pushed, appended}
 
 pub appended-none : (d : Draft) → appended d [] ≡ d
 unfolding appended
@@ -34,35 +34,45 @@ lengths d (c ∷ x) = lengths (pushed d c) x ∙ pushed-length d c
 pub appended-length : {e : Draft} (d : Draft) (x : List ℕ) → e ≡ appended d x → length (e .bytes) ≡ length (d .bytes)
 appended-length d x is = ap (λ (f : Draft). length (f .bytes)) is ∙ lengths d x
 
-pushed-draft : (x : List ℕ) (c : ℕ) → length x < 104 → pushed (draftOf x) c ≡ draftOf (x ++ c ∷ [])
-unfolding pushed
-pushed-draft x c fits =
-    let room : length x < length (x ++ replicate (104 - length x) 0) = simp (length-append, length-replicate) (omega arith) in
-    let left : 104 - length x ≡ suc (104 - suc (length x)) = omega arith in
-    let size : length (x ++ c ∷ []) ≡ suc (length x) = simp length-append (omega arith) in
-    rw (lt-ltb (length x) (length (x ++ replicate (104 - length x) 0)) room, left, size, add-one, append-snoc x c, set-append-seam x 0)
+-- ── a text for which there is room ──
+module _ (bytes : List ℕ) where
+  -- it stands over the bytes at the front
+  abbrev over : List ℕ → Draft
+  over text = drafted (text ++ drop (length text) bytes) (length text)
 
--- a text that fits is the draft
-pub appended-draft : (x y : List ℕ) → length (x ++ y) ≤ 104 → appended (draftOf x) y ≡ draftOf (x ++ y)
-unfolding appended
-appended-draft x [] fits = ap draftOf (sym (append-nil x))
-appended-draft x (c ∷ y) fits =
-    let size = length-append x (c ∷ y) in
-    ap (λ (d : Draft). appended d y) (pushed-draft x c (omega arith))
-    ∙ appended-draft (x ++ c ∷ []) y (rw (append-snoc x c y) fits)
-    ∙ ap draftOf (append-snoc x c y)
+  pushed-over : (x : List ℕ) (c : ℕ) → length x < length bytes → pushed (over x) c ≡ over (x ++ c ∷ [])
+  unfolding pushed
+  pushed-over x c fits =
+      let inside : length x < length (x ++ drop (length x) bytes) = simp (length-append, length-drop) (omega arith) in
+      let size : length (x ++ c ∷ []) ≡ suc (length x) = simp length-append (omega arith) in
+      rw (
+        lt-ltb (length x) (length (x ++ drop (length x) bytes)) inside,
+        size,
+        add-one,
+        append-snoc x c,
+        drop-cons bytes (length x) 0 fits,
+        set-append-seam x (getD bytes (length x) 0),
+      )
 
--- what a draft holds that is a text
-module _ {d : Draft} (text : List ℕ) (is : d ≡ draftOf text) where
+  appended-on : (x y : List ℕ) → length (x ++ y) ≤ length bytes → appended (over x) y ≡ over (x ++ y)
+  unfolding appended
+  appended-on x [] fits = ap over (sym (append-nil x))
+  appended-on x (c ∷ y) fits =
+      let size = length-append x (c ∷ y) in
+      ap (λ (d : Draft). appended d y) (pushed-over x c (omega arith))
+      ∙ appended-on (x ++ c ∷ []) y (rw (append-snoc x c y) fits)
+      ∙ ap over (append-snoc x c y)
+
+module _ (bytes text : List ℕ) {d : Draft} (is : d ≡ appended (drafted bytes 0) text) (fits : length text ≤ length bytes) where
+  whole : d ≡ over bytes text
+  whole = is ∙ appended-on bytes [] text fits
+
   pub draft-size : d .length ≡ length text
-  draft-size = ap (λ (e : Draft). e .length) is
+  draft-size = ap (λ (e : Draft). e .length) whole
 
   pub draft-says : take (d .length) (d .bytes) ≡ text
-  draft-says = ap (λ (e : Draft). take (e .length) (e .bytes)) is ∙ take-append-seam text (replicate (104 - length text) 0)
+  draft-says = ap (λ (e : Draft). take (e .length) (e .bytes)) whole ∙ take-append-seam text (drop (length text) bytes)
 
-  -- the text lies within the draft's bytes
+  -- it lies within the bytes
   pub draft-room : d .length ≤ length (d .bytes)
-  draft-room =
-      let size = draft-size in
-      let room = ap (λ (e : Draft). length (e .bytes)) is ∙ length-append text (replicate (104 - length text) 0) in
-      omega arith
+  draft-room = let size = draft-size in let room = appended-length (drafted bytes 0) text is in omega arith

@@ -1,8 +1,8 @@
--- What a draft holds, and the draft of 104 bytes: "Longest TCP4 line 56 bytes, TCP6 104" (document 01, "The text line").
-use mathlib.Core.List.{List, [], _∷_, _++_}
-use Prim.Native.Nat.{ℕ, _+_, _-_}
+-- What a draft holds: text composed in bytes that are lent.
+use mathlib.Core.List.{List, [], _∷_}
+use Prim.Native.Nat.{ℕ, _+_}
 use lib.Dec.{ltb}
-use lib.ListN.{length, set, replicate}
+use lib.ListN.{length, set}
 use Rattle.exact.specs.Pick.{pick}
 
 -- the text so far: the first of the bytes, as many as the length says
@@ -12,10 +12,6 @@ pub record Draft : Type 0 where
 
 abbrev pub drafted : (bytes : List ℕ) (length : ℕ) → Draft
 drafted bytes n = record { bytes = bytes; length = n }
-
--- the draft of 104 bytes that is a text: zeros stand behind it
-abbrev pub draftOf : List ℕ → Draft
-draftOf text = drafted (text ++ replicate (104 - length text) 0) (length text)
 
 -- a byte behind what a draft has; where there is no room for it, the draft stays
 unfoldable pub pushed : Draft → ℕ → Draft

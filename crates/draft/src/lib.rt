@@ -1,5 +1,5 @@
-// Text composed in lent bytes: each function puts its text from a place on, as far as there is room, and answers the place behind it. What has no room
-// is left out. No public function has a `requires`.
+// Text composed in lent bytes: each function puts its text from a place on, as far as there is room, and answers the place behind what it put. No public
+// function has a `requires`.
 ghost use mathlib.Core.Path.{_≡_};
 ghost use mathlib.Core.List.{[], _∷_};
 ghost use Prim.Native.Nat.{_≤_, _<_};

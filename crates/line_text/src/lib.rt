@@ -30,7 +30,7 @@ fn tcp_line(text: &mut [u8], word: &[u8], six: bool, record: Record) -> usize
     push_word(text, at, b"\r\n")
 }
 
-// Puts the line of a record at the front of the text, as far as there is room, and answers its length; nothing for a kind without a form.
+// Puts the line of a record at the front of the text, as far as there is room, and answers how many bytes it put; none for a kind without a form.
 pub fn line(record: Record, text: &mut [u8]) -> usize
     ensures { λ r. ⌜ drafted (now (text .exit)) r ≡ appended (drafted (now (text .entry)) 0) (writtenLine «record») ⌝ }
 {

@@ -1,4 +1,4 @@
--- The program's line fits a draft: it has at most 9 + 20 + 1 + 13 + 1 = 44 bytes.
+-- The program's line has at most 9 + 20 + 1 + 13 + 1 = 44 bytes.
 use Prim.Native.Nat.{ℕ, _^_, _≤_, _<_}
 use native.Mathlib.Omega.{arith}
 use lib.ListN.{length, length-append}
@@ -39,15 +39,15 @@ number-small Tlv = omega arith
 digits : (n : ℕ) → n < 2 ^ 64 → length (decimalText n) ≤ 20
 digits n fits = numeral-length 10 (omega arith) 19 n (omega arith)
 
-pub accepted-fits : (n v : ℕ) (k : Kind) → n < 2 ^ 64 → length (lineOf (Accepted n v) k) ≤ 104
+pub accepted-fits : (n v : ℕ) (k : Kind) → n < 2 ^ 64 → length (lineOf (Accepted n v) k) ≤ 44
 accepted-fits n v k fits =
     let l = digits n fits in
     let w = kind-length k in
     simp length-append (omega arith)
 
-pub refused-fits : (r : Refusal) (place : ℕ) (k : Kind) → place < 2 ^ 64 → length (lineOf (Refused r place) k) ≤ 104
+pub refused-fits : (r : Refusal) (place : ℕ) (k : Kind) → place < 2 ^ 64 → length (lineOf (Refused r place) k) ≤ 44
 refused-fits r place k fits =
     let small = number-small r in
-    let l = digits (numberOf r) (omega arith) in
+    let l = numeral-length 10 (omega arith) 0 (numberOf r) (omega arith) in
     let p = digits place fits in
     simp length-append (omega arith)

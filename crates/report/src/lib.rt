@@ -45,11 +45,11 @@ fn push_kind(text: &mut [u8], at: usize, kind: Kind) -> usize
     }
 }
 
-// Puts `more`, `refused 3 at 13`, or `accepted 47 ip4-stream`, and LF, at the front of the text, as far as there is room, and answers its length:
-// 9 + 20 + 1 + 13 + 1 = 44 bytes at most.
+// Puts `more`, `refused 3 at 13`, or `accepted 47 ip4-stream`, and LF, at the front of the text, as far as there is room, and answers how many bytes it
+// put. 9 + 20 + 1 + 13 + 1 = 44 are room enough.
 pub fn answer_line(reading: Reading, text: &mut [u8]) -> usize
     ensures { λ r. ⌜ (drafted (now (text .exit)) r ≡ appended (drafted (now (text .entry)) 0) (answerLine reading))
-        × (length (answerLine reading) ≤ 104) ⌝ }
+        × (length (answerLine reading) ≤ 44) ⌝ }
 {
     let verdict = reading.verdict;
     let record = reading.record;
@@ -76,7 +76,7 @@ pub fn answer_line(reading: Reading, text: &mut [u8]) -> usize
 
 // Writes the line to standard output, in one piece.
 pub fn print_reading(reading: Reading) {
-    let mut text = [0u8; 104];
+    let mut text = [0u8; 44];
     let n = answer_line(reading, &mut text);
     io::write_all(STDOUT_FILENO, &text[..n]);
 }

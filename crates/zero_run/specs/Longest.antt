@@ -1,4 +1,4 @@
--- Which run `longestRun` is, by its properties (document 02, K3): every other is shorter, or as long and later.
+-- Which run `longestRun` is, by its properties: "the longest (…), the first of equals" (document 02, K3), so that every other is shorter, or as long and later.
 use mathlib.Core.Path.{_≡_, refl, sym, ap, ap₂}
 use mathlib.Core.List.{List, [], _∷_}
 use Prim.Native.Nat.{ℕ, zero, suc, _≤_, _<_}

@@ -1,6 +1,6 @@
 -- What is written is what `check` answers. A refusal leaves the output as it was; else the text is put at its front.
 use mathlib.Core.Path.{_≡_, ap, _∙_}
-use mathlib.Core.List.{List, []}
+use mathlib.Core.List.{List}
 use Prim.Native.Nat.{ℕ, _≤_}
 use native.Mathlib.Omega.{arith}
 use lib.ListN.{length, take, length-take}
@@ -12,8 +12,7 @@ use Rattle.record.specs.Records.{Sized}
 use Rattle.lent.specs.Placed.{placed}
 use Rattle.lent.specs.PlacedLaws.{placed-start}
 use Rattle.record.proofs.InMemory.{in-memory}
-use Rattle.draft.specs.Drafts.{drafted, draftOf}
-use Rattle.draft.specs.DraftLaws.{appended-draft, draft-size, draft-says, draft-room}
+use Rattle.draft.specs.DraftLaws.{draft-size, draft-says, draft-room}
 use Rattle.answer.specs.Answers.{WriteAnswer, outputAfter}
 use Rattle.answer.specs.OutputLaws.{output-refused, is-wrote, output-written, Promised, promised}
 use Rattle.line_text.specs.LineText.{writtenLine}
@@ -37,17 +36,17 @@ module _ (c : tie.After-line) where
   sized : Sized the-record
   sized = in-memory the-record _ (start .good .0)
 
-  is-line : drafted text (c .line .result) ≡ draftOf (writtenLine the-record)
-  is-line = c .line .ensures ∙ appended-draft [] (writtenLine the-record) (written-fits the-record sized)
+  fits : length (writtenLine the-record) ≤ 104
+  fits = written-fits the-record sized
 
   size : c .line .result ≡ length (writtenLine the-record)
-  size = draft-size (writtenLine the-record) is-line
+  size = let l = fits in draft-size _ (writtenLine the-record) (c .line .ensures) (omega arith)
 
   room : c .line .result ≤ length text
-  room = draft-room (writtenLine the-record) is-line
+  room = let l = fits in draft-room _ (writtenLine the-record) (c .line .ensures) (omega arith)
 
   says : take (c .line .result) text ≡ writtenLine the-record
-  says = draft-says (writtenLine the-record) is-line
+  says = let l = fits in draft-says _ (writtenLine the-record) (c .line .ensures) (omega arith)
 
 -- ── the answer ──
 module _ (c : tie.After-check) where

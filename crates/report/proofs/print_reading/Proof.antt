@@ -1,10 +1,8 @@
 -- The line lies within the text.
-use mathlib.Core.Path.{_∙_}
-use mathlib.Core.List.{[]}
 use lib.ListN.{length-take}
 use native.Mathlib.Omega.{arith}
 use borrow.Author.Needs.{needs}
-use Rattle.draft.specs.DraftLaws.{appended-draft, draft-room}
+use Rattle.draft.specs.DraftLaws.{draft-room}
 use Rattle.report.specs.Line.{answerLine}
 use Rattle.report.proofs.print_reading.Statement.{statement}
 use Rattle.report.proofs.print_reading.Tie as tie
@@ -12,8 +10,8 @@ use Rattle.report.proofs.print_reading.Tie as tie
 array-share-prefix-text : tie.Need-array-share-prefix-text
 array-share-prefix-text c =
     let put = c .before in
-    let line = answerLine (put .before .before .args .reading) in
-    draft-room line (put .answer-line .ensures .0 ∙ appended-draft [] line (put .answer-line .ensures .1))
+    let fits = put .answer-line .ensures .1 in
+    draft-room _ (answerLine (put .before .before .args .reading)) (put .answer-line .ensures .0) (omega arith)
 
 slice-aggregate-write-all : tie.Need-slice-aggregate-write-all
 slice-aggregate-write-all c =
