@@ -99,7 +99,7 @@ fn connection(kind: u8, source: &[u8], destination: &[u8], state: u8) -> Vec<u8>
     [&[kind][..], source, &unused, destination, &unused, &PORTS, &[state]].concat()
 }
 
-/// The stored form of one of IPv4, with this between the mark and the address block.
+/// The stored form of the IPv4 connection, with this between the mark and the address block.
 fn form(head: &[u8]) -> Vec<u8> {
     [b"CSR\0", head, &SOURCE, &DESTINATION, &PORTS].concat()
 }

@@ -17,7 +17,7 @@ type Address = [u8; 16];
 const SOURCE_PORT: u16 = 1;
 const DESTINATION_PORT: u16 = 65_535;
 
-/// What RFC 5952 says is to be written, and spellings of the same address that it shows; by section.
+/// What RFC 5952 says is to be written, and spellings of the same address that it shows, by section (from memory: docs/DECISIONS.md).
 const PUBLISHED: [(&str, &[&str]); 14] = [
     // 1
     (
@@ -67,7 +67,7 @@ const PUBLISHED: [(&str, &[&str]); 14] = [
     ("::1", &["0:0:0:0:0:0:0:1", "0::1"]),
 ];
 
-/// Each spelling is read, and what was read is written, as inet_ntop does.
+/// Each spelling is read, and what was read is written as the RFC says, and as inet_ntop writes it.
 pub fn published() -> Outcome {
     let mut outcome = Outcome::new("spellings of RFC 5952");
     for (written, spellings) in PUBLISHED {
@@ -77,7 +77,8 @@ pub fn published() -> Outcome {
             outcome.holds(read.answer == 0, || format!("{spelling} is not read: {read}"));
             outcome.holds(text_of(connection) == line(written, written), || format!("{spelling} is written {:?}, not {written}", text_of(connection)));
             let address = std::array::from_fn(|i| connection[SOURCE + i]);
-            outcome.add(as_inet_ntop(&address, &address).map(drop));
+            let plain = as_inet_ntop(&address, &address);
+            outcome.holds(plain == Ok(2), || format!("{spelling}: {plain:?} beside inet_ntop"));
             interface::line(&mut outcome, connection, NUMBERS);
         }
     }
@@ -163,7 +164,7 @@ impl Texts {
         interface::line(&mut self.outcome, &between(source, destination), NUMBERS);
     }
 
-    /// Both came.
+    /// Addresses of both sorts came.
     fn all_reached(mut self) -> Outcome {
         let Texts { plain, dotted, .. } = self;
         let told = format!("{plain} addresses as inet_ntop writes them, {dotted} to which it gives a dotted tail");
@@ -173,7 +174,7 @@ impl Texts {
     }
 }
 
-/// The library writes both addresses of a line as inet_ntop does, apart from those to which that gives a dotted tail; how many those without one are.
+/// The library writes both addresses of a line as inet_ntop does, apart from those to which that gives a dotted tail. Answers how many have none.
 pub fn as_inet_ntop(source: &Address, destination: &Address) -> Result<usize, String> {
     let line = text_of(&between(source, destination));
     let mut words = line.split(' ').skip(2);

@@ -1,4 +1,4 @@
-// An address as version 1 text (document 01, "The text line"). No public function has a `requires`.
+// An address as version 1 text (document 01, "The text line"; IPv6: document 02, K3). No public function has a `requires`.
 use draft::push_decimals;
 use draft::push_hexes;
 use draft::push_word;

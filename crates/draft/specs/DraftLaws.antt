@@ -1,4 +1,4 @@
--- For proofs. Texts put behind a draft, one after the other, and when they are the draft.
+-- For proofs. Texts put behind a draft, one after the other, and what it holds where there is room.
 use mathlib.Core.Path.{_≡_, refl, sym, ap, _∙_}
 use mathlib.Core.List.{List, [], _∷_, _++_, append-nil}
 use Prim.Native.Nat.{ℕ, suc, _≤_, _<_}
