@@ -3,12 +3,12 @@
 use answer::Verdict;
 use area::area_span;
 use crc::crc32c_cleared;
-use crc::stored_bytes;
 use lent::behind;
 use lent::front;
 use lent::same_bytes;
 use lookup::Answer;
 use lookup::lookup;
+use network32::network_bytes;
 use reader::read;
 use record::Checksum;
 use record::Kind;
@@ -48,7 +48,7 @@ pub struct CheckedReading {
 fn is_right(header: &[u8], at: usize) -> bool
     ensures { λ r. ⌜ r ≡ same (take 4 (drop at (now (header .entry)))) (stored (checksumOfBytes (cleared at (now (header .entry))))) ⌝ }
 {
-    let sum = stored_bytes(crc32c_cleared(header, at));
+    let sum = network_bytes(crc32c_cleared(header, at));
     same_bytes(front(behind(header, at), 4), &sum)
 }
 

@@ -7,9 +7,9 @@ use block_writer::sized;
 use block_writer::write_block;
 use clean::clean;
 use crc::crc32c;
-use crc::stored_bytes;
 use lent::front;
 use lent::put;
+use network32::network_bytes;
 use record::Kind;
 use record::Record;
 use record::block_length;
@@ -66,7 +66,7 @@ pub fn write_checked(record: Record, area: &[u8], out: &mut [u8]) -> Written
     let block = block_length(kind) + area.len();
     put_block(record, (block + 7) as u16, area, out);
     put_tlv(0x03, &[0; 4], out, 16 + block);
-    let sum = stored_bytes(crc32c(front(out, 23 + block)));
+    let sum = network_bytes(crc32c(front(out, 23 + block)));
     put(&sum, out, 19 + block);
     answer
 }

@@ -1,8 +1,9 @@
 -- CRC32C as RFC 4960 appendix B defines it, bit by bit. Reflected: the first bit of a byte is its lowest, and the register moves right.
 use mathlib.Core.List.{List, [], _∷_, _++_}
-use Prim.Native.Nat.{ℕ, zero, suc, _+_, _*_, _/_, _%_, _^_}
+use Prim.Native.Nat.{ℕ, zero, suc, _+_, _*_, _/_, _%_}
 use lib.Bits.{bitXor}
 use lib.ListN.{take, drop, replicate}
+use Rattle.network32.specs.Network32.{network32}
 
 -- the polynomial 0x1EDC6F41, its 32 bits in the other order
 abbrev pub polynomial : ℕ
@@ -36,9 +37,9 @@ unfoldable pub checksum : List ℕ → ℕ
 unfolding register
 checksum bs = bitXor (register ones bs) ones
 
--- "the result stored in network order": high byte first
+-- "the result stored in network order"
 abbrev pub stored : ℕ → List ℕ
-stored c = c / 2 ^ 24 % 256 ∷ c / 2 ^ 16 % 256 ∷ c / 2 ^ 8 % 256 ∷ c % 256 ∷ []
+stored c = network32 c
 
 -- "the four value bytes of TLV 0x03 taken as zero": the four at this place
 unfoldable pub cleared : ℕ → List ℕ → List ℕ

@@ -3,7 +3,7 @@ ghost use mathlib.Core.Path.{_≡_};
 ghost use Prim.Native.Nat.{_+_, _*_, _%_, _≤_, _<_};
 ghost use lib.Bits.{bitXor};
 ghost use lib.ListN.{length, take, drop};
-ghost use Rattle.crc.specs.Crc.{bits, byte, register, checksum, cleared, stored};
+ghost use Rattle.crc.specs.Crc.{bits, byte, register, checksum, cleared};
 ghost use Rattle.crc.specs.Table.{Right};
 
 mod table;
@@ -76,16 +76,4 @@ pub fn crc32c_cleared(bytes: &[u8], at: usize) -> u32
     let zeros = crc_part(&table, before, &[0; 4]);
     let rest = lent::behind(lent::behind(bytes, at), 4);
     crc_part(&table, zeros, rest) ^ 0xffffffff
-}
-
-// A checksum as it stands in a header, in network order.
-pub fn stored_bytes(sum: u32) -> [u8; 4]
-    ensures { λ r. ⌜ r ≡ stored sum ⌝ }
-{
-    [
-        ((sum >> 24) % 256) as u8,
-        ((sum >> 16) % 256) as u8,
-        ((sum >> 8) % 256) as u8,
-        (sum % 256) as u8,
-    ]
 }

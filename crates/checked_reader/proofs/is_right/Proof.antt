@@ -14,7 +14,7 @@ returns c =
     let put = from .before in
     let sum = put .before in
     c .same-bytes .ensures
-    ∙ ap₂ same (cut .front .ensures .2 ∙ ap (take 4) (from .behind .ensures .2)) (put .stored-bytes .ensures ∙ ap stored (sum .crc32c-cleared .ensures))
+    ∙ ap₂ same (cut .front .ensures .2 ∙ ap (take 4) (from .behind .ensures .2)) (put .network-bytes .ensures ∙ ap stored (sum .crc32c-cleared .ensures))
 
 pub is-right-spec : {M : Type 1} → statement M
 is-right-spec =

@@ -123,8 +123,8 @@ returns-2 c =
     let sizes = block .before .before in
     let d = checked sizes in
     let room : 23 + k sizes ≤ length (out d) = let e = all-size sizes in let h = carried sizes .2 in omega arith in
-    let the-sum : stored-sum .stored-bytes .result ≡ checksumFor (the-record d) (area d) =
-    stored-sum .stored-bytes .ensures
+    let the-sum : stored-sum .network-bytes .result ≡ checksumFor (the-record d) (area d) =
+    stored-sum .network-bytes .ensures
     ∙ ap stored
     (summed .crc32c .ensures
     ∙ ap checksum
@@ -133,7 +133,7 @@ returns-2 c =
     in
     promise d _
     (with-sum (the-record d) (area d) (sized d) (k sizes) (size sizes) (out d) _ _ room (block .put-block .ensures) (zeros .put-tlv .ensures)
-    (stored-sum .stored-bytes .result) _ (ap length (stored-sum .stored-bytes .ensures)) (put .put .ensures)
+    (stored-sum .network-bytes .result) _ (ap length (stored-sum .network-bytes .ensures)) (put .put .ensures)
     ∙ ap (λ (v : List ℕ). writtenBlock (the-record d) (withTlv (area d) v) ++ drop (23 + k sizes) (out d)) the-sum
     ∙ ap (λ (m : ℕ). text d ++ drop m (out d)) (all-size sizes)
     ∙ output-written (answer d) (text d) (out d) (n sizes) (some sizes .1))
