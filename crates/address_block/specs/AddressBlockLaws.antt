@@ -1,7 +1,7 @@
 -- For proofs. How long the parts of an address block are, and that a record and its address block give each other.
 use mathlib.Core.Path.{_≡_, refl, sym, ap, ap₂, _∙_}
 use mathlib.Core.List.{List, [], _∷_, _++_, append-assoc, append-nil}
-use Prim.Native.Nat.{ℕ, zero, suc, _+_, _-_, _/_, _%_, _≤_, _<_}
+use Prim.Native.Nat.{ℕ, suc, _+_, _-_, _/_, _%_, _≤_, _<_}
 use native.Mathlib.Numerals.{add-one}
 use native.Mathlib.Omega.{arith}
 use lib.ListN.{length, take, drop, getD, replicate, length-append, length-drop, take-append-drop}
@@ -9,7 +9,7 @@ use lib.Seq.{length-take-le, take-at, drop-at, take-add, take-length, drop-cons,
 use Rattle.exact.specs.Claim.{AllBytes}
 use Rattle.exact.specs.Network.{network, numberAt}
 use Rattle.exact.specs.Byte.{zeros}
-use Rattle.exact.specs.Parser.{bytes-append, bytes-take, bytes-drop}
+use Rattle.exact.specs.Parser.{bytes-append, bytes-take, bytes-drop, byte-at}
 use Rattle.record.specs.declared.Kind.{Kind}
 use Rattle.record.specs.declared.Kind.the-variants.{Local, Unspecified, Ip4, Ip6, Unix}
 use Rattle.record.specs.declared.Record.{Record}
@@ -50,11 +50,6 @@ block-size r s d =
     simp length-append (omega arith)
 
 -- ── bytes ──
-pub byte-at : (s : List ℕ) (i : ℕ) → AllBytes s → getD s i 0 < 256
-byte-at [] i b = omega arith
-byte-at (c ∷ s) zero b = b .0
-byte-at (c ∷ s) (suc i) b = byte-at s i (b .1)
-
 number-small : (s : List ℕ) (i : ℕ) → AllBytes s → numberAt s i < 65536
 number-small s i b = let h = byte-at s i b in let l = byte-at s (i + 1) b in omega arith
 

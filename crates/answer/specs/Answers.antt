@@ -3,7 +3,7 @@ use mathlib.Core.Path.{_≡_}
 use mathlib.Core.Bool.{Bool, true, false}
 use mathlib.Core.List.{List, [], _++_}
 use Prim.Native.Nat.{ℕ, _+_}
-use lib.Dec.{eqb}
+use lib.Dec.{eqb, leb, ltb}
 use lib.ListN.{take, drop}
 use Rattle.exact.specs.Claim as Claim
 use Rattle.exact.specs.Claim.{accepted, more, refused}
@@ -52,6 +52,11 @@ pub data WriteAnswer : Type 0 where
 abbrev pub toldWritten : Written → WriteAnswer
 toldWritten (Bytes n) = wrote n
 toldWritten (Refuses fault) = refuses (faultNumber fault)
+
+-- 13, "exceed 65,535 bytes"; 14, "the output is shorter than what must be written": by the length that is limited, that of all bytes, and the room
+abbrev pub sizedAnswer : (limited text room : ℕ) → WriteAnswer
+sizedAnswer limited text room =
+    pick (ltb limited 65536) (pick (leb text room) (wrote text) (refuses 14)) (refuses 13)
 
 -- whether anything is written
 abbrev pub isWritten : WriteAnswer → Bool

@@ -3,7 +3,6 @@ use mathlib.Core.Path.{_≡_}
 use mathlib.Core.Bool.{Bool}
 use mathlib.Core.List.{List, [], _++_}
 use Prim.Native.Nat.{ℕ, _+_, _<_}
-use lib.Dec.{leb, ltb}
 use lib.ListN.{length}
 use Rattle.exact.specs.Pick.{pick}
 use Rattle.tlv.specs.Tlv.{WellFormed}
@@ -14,7 +13,7 @@ use Rattle.clean.specs.Unused.{plainTest}
 use Rattle.address_block.specs.AddressBlock.{addressBlock}
 use Rattle.lent.specs.Placed.{placed}
 use Rattle.header.specs.Block.{HasAddresses}
-use Rattle.answer.specs.Answers.{WriteAnswer, wrote, refuses}
+use Rattle.answer.specs.Answers.{WriteAnswer, refuses, sizedAnswer}
 use Rattle.block_writer.specs.Areas.{areaTest}
 use Rattle.head_writer.specs.Head.{headOf}
 
@@ -34,12 +33,8 @@ pub record CarriedByBlock (r : Record) (area : List ℕ) : Type 0 where
   pub beside : (HasAddresses (r .kind) → ⊥) → area ≡ []
   pub small : length (blockOf r area) < 65536
 
--- 13, "address block and TLVs exceed 65,535 bytes"; 14, "the output is shorter than what must be written": by the lengths of the block and the header
-abbrev pub sizedAnswer : (block header room : ℕ) → WriteAnswer
-sizedAnswer block header room =
-    pick (ltb block 65536) (pick (leb header room) (wrote header) (refuses 14)) (refuses 13)
-
--- "Writers check 10, 11, 12, 13, 14 in this order; [..] 10 is version 1's only": by a test of the record, one of the area, and those lengths
+-- "Writers check 10, 11, 12, 13, 14 in this order; [..] 10 is version 1's only"; 13 where "address block and TLVs exceed 65,535 bytes": by a test of
+-- the record, one of the area, and the lengths of the block and the header
 abbrev pub inOrder : (good fits : Bool) (block header room : ℕ) → WriteAnswer
 inOrder good fits block header room =
     pick good (pick fits (sizedAnswer block header room) (refuses 12)) (refuses 11)

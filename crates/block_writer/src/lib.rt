@@ -13,9 +13,9 @@ use tlv::well_formed;
 ghost use mathlib.Core.Path.{_≡_};
 ghost use Prim.Native.Nat.{_+_};
 ghost use lib.ListN.{length};
-ghost use Rattle.answer.specs.Answers.{toldWritten, outputAfter};
+ghost use Rattle.answer.specs.Answers.{toldWritten, sizedAnswer, outputAfter};
 ghost use Rattle.block_writer.specs.Areas.{areaTest};
-ghost use Rattle.block_writer.specs.Written.{sizedAnswer, blockPlaced, writtenBlock, blockAnswer};
+ghost use Rattle.block_writer.specs.Written.{blockPlaced, writtenBlock, blockAnswer};
 ghost use Rattle.block_writer.specs.Demand.{Means, ReadsBack};
 
 // Whether the area may stand beside the kind: TLVs fill it, and it is empty beside local and unspecified.

@@ -4,7 +4,7 @@ use mathlib.Core.Path.{_≡_, refl, sym, ap, _∙_, subst}
 use mathlib.Core.Bool.{Bool, true, false}
 use mathlib.Core.List.{List, [], _∷_, _++_}
 use mathlib.Core.Logic.{⊎-elim, _↔_}
-use Prim.Native.Nat.{ℕ, suc, _-_, _≤_, _<_}
+use Prim.Native.Nat.{ℕ, zero, suc, _-_, _≤_, _<_}
 use native.Mathlib.Omega.{arith}
 use mir.Syntax.{w8}
 use mir.Val.{Fits}
@@ -59,6 +59,11 @@ bytes-take n s b = bytes-front (take n s) (drop n s) (subst AllBytes (sym (take-
 
 pub bytes-drop : (n : ℕ) (s : List ℕ) → AllBytes s → AllBytes (drop n s)
 bytes-drop n s b = bytes-back (take n s) (drop n s) (subst AllBytes (sym (take-append-drop n s)) b)
+
+pub byte-at : (s : List ℕ) (i : ℕ) → AllBytes s → getD s i 0 < 256
+byte-at [] i b = omega arith
+byte-at (c ∷ s) zero b = b .0
+byte-at (c ∷ s) (suc i) b = byte-at s i (b .1)
 
 -- ── the parsers that the laws make ──
 abbrev pub just : {A : Type 0} (w : A → ℕ) → A → Parser A w

@@ -50,16 +50,16 @@ first-joined wanted (t ∷ a) b = by (eqb (t .type) wanted) (first-joined wanted
 
 -- ── where the value of a TLV starts, and its length ──
 module _ (i : ℕ) (a b : List Tlv) where
-  start-first : i < length a → startOf i (a ++ b) ≡ startOf i a
+  pub start-first : i < length a → startOf i (a ++ b) ≡ startOf i a
   start-first h = ap (λ (l : List Tlv). length (written l) + 3) (take-append-le i a b (omega arith))
 
-  start-second : startOf (length a + i) (a ++ b) ≡ length (written a) + startOf i b
+  pub start-second : startOf (length a + i) (a ++ b) ≡ length (written a) + startOf i b
   start-second =
       let n = ap length (ap written (take-append-add a b i) ∙ written-append a (take i b)) in
       let m = length-append (written a) (written (take i b)) in
       omega arith
 
-length-first : (i : ℕ) (a b : List Tlv) → i < length a → lengthOf i (a ++ b) ≡ lengthOf i a
+pub length-first : (i : ℕ) (a b : List Tlv) → i < length a → lengthOf i (a ++ b) ≡ lengthOf i a
 length-first i [] b h = absurd (omega arith)
 length-first zero (t ∷ a) b h = refl
 length-first (suc i) (t ∷ a) b h = length-first i a b (omega arith)

@@ -6,7 +6,7 @@ use native.Mathlib.Omega.{arith}
 use borrow.Author.Tests.{leb-true, le-leb, lt-leb, lt-ltb, le-ltb}
 use lib.Dec.{ltb, leb}
 use lib.ListN.{length, getD, drop}
-use Rattle.exact.specs.Pick.{pick-by}
+use Rattle.exact.specs.Pick.{pick, pick-by}
 use Rattle.tlv.specs.Test.{wellFormed}
 use Rattle.tlv.specs.Heads.{sizeAt}
 use Rattle.tlv_step.specs.Step.{Step, shown, end, refused, headAt, stepAt, startOf, lengthOf}
@@ -24,6 +24,10 @@ module _ (s : List ℕ) (at : ℕ) where
 
   pub head-shown : at + 3 + sizeAt s at ≤ length s → headAt s at ≡ shown (getD s at 0) (at + 3) (sizeAt s at)
   head-shown g = let h : at < length s = omega arith in simp (lt-ltb at (length s) h, le-leb (at + 3 + sizeAt s at) (length s) g)
+
+  -- where a TLV is due, it is shown or does not end in the area
+  pub head-due : at < length s → headAt s at ≡ pick (leb (at + 3 + sizeAt s at) (length s)) (shown (getD s at 0) (at + 3) (sizeAt s at)) (refused 12)
+  head-due h = rw (lt-ltb at (length s) h)
 
   -- ── what is shown lies in the area ──
   abbrev Lies : Step → Type 0

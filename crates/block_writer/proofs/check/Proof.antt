@@ -13,7 +13,8 @@ use Rattle.record.specs.Records.{Sized}
 use Rattle.clean.specs.Unused.{plainTest}
 use Rattle.record.proofs.InMemory.{in-memory}
 use Rattle.block_writer.specs.Areas.{areaTest}
-use Rattle.block_writer.specs.Written.{blockOf, writtenBlock, sizedAnswer}
+use Rattle.answer.specs.Answers.{sizedAnswer}
+use Rattle.block_writer.specs.Written.{blockOf, writtenBlock}
 use Rattle.block_writer.proofs.WrittenLaws.{block-length, written-length}
 use Rattle.block_writer.proofs.check.Statement.{statement}
 use Rattle.block_writer.proofs.check.Tie as tie

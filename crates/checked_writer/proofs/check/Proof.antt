@@ -13,7 +13,8 @@ use Rattle.record.specs.Records.{Sized}
 use Rattle.record.proofs.InMemory.{in-memory}
 use Rattle.clean.specs.Unused.{cleanTest}
 use Rattle.fields.specs.BlockFields.{block-small}
-use Rattle.block_writer.specs.Written.{blockOf, sizedAnswer}
+use Rattle.answer.specs.Answers.{sizedAnswer}
+use Rattle.block_writer.specs.Written.{blockOf}
 use Rattle.checked_writer.specs.Written.{checksumFor, checkedArea, writtenChecked, requestTest}
 use Rattle.checked_writer.proofs.PutLaws.{tlv-length, header-length}
 use Rattle.checked_writer.proofs.check.Statement.{statement}

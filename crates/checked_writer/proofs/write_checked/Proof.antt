@@ -129,10 +129,10 @@ returns-2 c =
     (summed .crc32c .ensures
     ∙ ap checksum
     (cut .front .ensures .2
-    ∙ zeros-front (the-record d) (area d) (sized d) (k sizes) (size sizes) (out d) _ _ room (block .put-block .ensures) (zeros .put-tlv .ensures)))
+    ∙ zeros-front (the-record d) (area d) (sized d) (k sizes) (size sizes) (out d) _ _ room (block .put-block .ensures) (zeros .put-tlv .ensures .1)))
     in
     promise d _
-    (with-sum (the-record d) (area d) (sized d) (k sizes) (size sizes) (out d) _ _ room (block .put-block .ensures) (zeros .put-tlv .ensures)
+    (with-sum (the-record d) (area d) (sized d) (k sizes) (size sizes) (out d) _ _ room (block .put-block .ensures) (zeros .put-tlv .ensures .1)
     (stored-sum .network-bytes .result) _ (ap length (stored-sum .network-bytes .ensures)) (put .put .ensures)
     ∙ ap (λ (v : List ℕ). writtenBlock (the-record d) (withTlv (area d) v) ++ drop (23 + k sizes) (out d)) the-sum
     ∙ ap (λ (m : ℕ). text d ++ drop m (out d)) (all-size sizes)

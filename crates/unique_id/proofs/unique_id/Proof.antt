@@ -20,7 +20,7 @@ use Rattle.tlv_count.specs.declared.Count.{Count}
 use Rattle.tlv_count.specs.declared.Count.the-variants.{Tlvs, IllFormed}
 use Rattle.tlv_count.specs.Count.{countOf, Counts}
 use Rattle.unique_id.specs.UniqueId.{Value, firstValue, isSized, hasId, idOf, idIn}
-use Rattle.unique_id.specs.IdLaws.{first-in, first-below}
+use Rattle.unique_id.specs.IdLaws.{counted-first}
 use Rattle.unique_id.proofs.unique_id.Statement.{statement}
 use Rattle.unique_id.proofs.unique_id.Tie as tie
 
@@ -64,7 +64,7 @@ module _ (area : List ℕ) where
 
     found : toldLookup r ≡ foundAt (firstOf 0x05 tlvs + 1) (startOf (firstOf 0x05 tlvs) tlvs) (lengthOf (firstOf 0x05 tlvs) tlvs)
     found =
-        let h = first-below 0x05 tlvs (first-in 0x05 tlvs (omega arith)) in
+        let h = counted-first 0x05 tlvs (omega arith) in
         let n = few tlvs in
         let e = ap length (w .1 .0) in
         looks .answers
