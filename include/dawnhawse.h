@@ -23,6 +23,8 @@
  *   dawnhawse_next                  64   nothing: one TLV is looked at
  *   dawnhawse_step                  64   the TLVs from the place to the end of the area, each looked at once
  *   dawnhawse_lookup                64   the TLVs of the area, each looked at once, and those examined once more
+ *   dawnhawse_read_ssl             320   the sub-TLVs of the value, each looked at once
+ *   dawnhawse_write_ssl            192   the bytes written
  *   dawnhawse_write_v1            1600   nothing: at most 104 bytes are written
  *   dawnhawse_write_v2            1216   the TLVs of the area, each looked at once, and the bytes written
  *   dawnhawse_write_v2_checked    1728   the TLVs of the area, each looked at twice, and the bytes written, each looked at once
@@ -44,9 +46,9 @@
 #include <stdint.h>
 
 /* The release of the library; README says what each of its numbers counts. */
-#define DAWNHAWSE_RELEASE "0.7.0"
+#define DAWNHAWSE_RELEASE "0.8.0"
 #define DAWNHAWSE_RELEASE_MAJOR 0
-#define DAWNHAWSE_RELEASE_MINOR 7
+#define DAWNHAWSE_RELEASE_MINOR 8
 #define DAWNHAWSE_RELEASE_PATCH 0
 
 #ifdef __cplusplus
@@ -90,7 +92,7 @@ extern "C" {
    area that is not empty beside local or unspecified, or a checksum asked for beside these or beside a 0x03 TLV. */
 #define DAWNHAWSE_ILL_FORMED 12
 
-/* Writers of version 2 headers: address block and TLVs exceed 65535 bytes. */
+/* Writers of version 2 headers: address block and TLVs exceed 65535 bytes. dawnhawse_write_ssl: a piece or the value does. */
 #define DAWNHAWSE_TOO_LARGE 13
 
 /* A buffer that must be written is too short. */
@@ -105,6 +107,12 @@ extern "C" {
    checksum state of a connection is unknown; it has not 222 bytes. */
 #define DAWNHAWSE_UNKNOWN_KIND 17
 #define DAWNHAWSE_WRONG_SIZE 18
+
+/* dawnhawse_read_ssl: the value has fewer than 5 bytes, or sub-TLVs do not fill the rest of it. */
+#define DAWNHAWSE_WRONG_SSL 19
+
+/* dawnhawse_read_ssl and dawnhawse_write_ssl: the client came over TLS, and its version is not told. */
+#define DAWNHAWSE_NO_SSL_VERSION 20
 
 /* Checked reading: a whole header of an address kind whose checksum is wrong, or whose 0x03 TLV has a value that is not 4 bytes, or
    that has several 0x03 TLVs. */
@@ -153,8 +161,8 @@ extern "C" {
 #define DAWNHAWSE_VALUE_START 2  /* where the value starts in the area */
 #define DAWNHAWSE_VALUE_LENGTH 3 /* the value's length */
 
-/* dawnhawse_write_v1, dawnhawse_write_v2, dawnhawse_write_v2_checked, dawnhawse_store, dawnhawse_store_v2, dawnhawse_forward and
-   dawnhawse_back */
+/* dawnhawse_write_v1, dawnhawse_write_v2, dawnhawse_write_v2_checked, dawnhawse_write_ssl, dawnhawse_store, dawnhawse_store_v2,
+   dawnhawse_forward and dawnhawse_back */
 #define DAWNHAWSE_WRITTEN_LENGTH 0 /* how many bytes were written; the other three numbers are 0 */
 
 /* dawnhawse_doorman */
@@ -163,11 +171,40 @@ extern "C" {
 #define DAWNHAWSE_UNIQUE_ID_START 2  /* admitted: where the value of the 0x05 TLV starts in the bytes read; 0 for local */
 #define DAWNHAWSE_UNIQUE_ID_LENGTH 3 /* admitted: the value's length, 1 to 128; 0 for local */
 
+/* ---- The numbers of dawnhawse_read_ssl: uint64_t numbers[DAWNHAWSE_SSL_NUMBERS] ---- */
+
+#define DAWNHAWSE_SSL_NUMBERS 12
+
+#define DAWNHAWSE_SSL_CLIENT 0 /* the client byte, below */
+#define DAWNHAWSE_SSL_VERIFY 1 /* 0 if the client presented a certificate and it was verified, else not 0 */
+
+/* Where each piece starts in the value; its length is the number behind that. An absent piece has 0 and 0; one that is there starts at
+   8 or later, also if it is empty. */
+#define DAWNHAWSE_SSL_VERSION 2     /* sub-TLV 0x21: TLS version, as "TLSv1.3" */
+#define DAWNHAWSE_SSL_COMMON_NAME 4 /* sub-TLV 0x22: common name of the client's certificate */
+#define DAWNHAWSE_SSL_CIPHER 6      /* sub-TLV 0x23: cipher */
+#define DAWNHAWSE_SSL_SIGNATURE 8   /* sub-TLV 0x24: algorithm that signed the front end's certificate */
+#define DAWNHAWSE_SSL_KEY 10        /* sub-TLV 0x25: algorithm of that certificate's key */
+
+/* The type of the TLV whose value this is, and the bits of its client byte */
+#define DAWNHAWSE_SSL 0x20
+#define DAWNHAWSE_SSL_CLIENT_TLS 0x01         /* the client came over TLS */
+#define DAWNHAWSE_SSL_CLIENT_CONNECTION 0x02  /* it gave a certificate over this connection */
+#define DAWNHAWSE_SSL_CLIENT_SESSION 0x04     /* it gave a certificate at least once over this TLS session */
+
+/* The bits that tell dawnhawse_write_ssl which pieces are there */
+#define DAWNHAWSE_SSL_HAS_VERSION 0x01
+#define DAWNHAWSE_SSL_HAS_COMMON_NAME 0x02
+#define DAWNHAWSE_SSL_HAS_CIPHER 0x04
+#define DAWNHAWSE_SSL_HAS_SIGNATURE 0x08
+#define DAWNHAWSE_SSL_HAS_KEY 0x10
+
 /* ---- Outputs: so many bytes are room enough ---- */
 
 #define DAWNHAWSE_LONGEST_V1 104        /* a version 1 line that is written; one that is read has at most 107 */
 #define DAWNHAWSE_LONGEST_HEADER 65551  /* any header */
 #define DAWNHAWSE_LONGEST_ADMITTED 536  /* a header that dawnhawse_doorman admits: 16 + 520 */
+#define DAWNHAWSE_LONGEST_SSL 65535     /* a value of TLV 0x20 */
 #define DAWNHAWSE_LONGEST_STORED 222    /* a stored form of version 1: 3 + 2 + 1 + 216 */
 #define DAWNHAWSE_LONGEST_STORED_V2 223 /* a stored form of version 2: 3 + 2 + 1 + 1 + 216 */
 
@@ -319,6 +356,56 @@ uint32_t dawnhawse_step(const uint8_t *area, size_t area_len, size_t at, uint64_
  */
 uint32_t dawnhawse_lookup(const uint8_t *area, size_t area_len, uint8_t wanted, size_t limit, uint64_t *numbers,
                           size_t numbers_len);
+
+/*
+ * What a TLS front end said of its client: the inside of TLV 0x20. Its value is one client byte, a verify number of 32 bits, high byte
+ * first, and sub-TLVs that fill the rest. Readers of headers do not look into it: a header is accepted whatever stands there. Look the
+ * TLV up by dawnhawse_lookup, and read its value (examples/tls_client.c).
+ *
+ * A piece is the value of the first sub-TLV of its type. Sub-TLVs of other types, and further ones of a type, are passed over. An empty
+ * piece is there; an absent one is not.
+ *
+ * It is what the front end said. Whoever can send a header can say anything in it, so take headers from the front end only, and let
+ * nothing rest on a common name without DAWNHAWSE_SSL_CLIENT_CONNECTION or DAWNHAWSE_SSL_CLIENT_SESSION and a verify number of 0.
+ *
+ *   value, value_len       the value of TLV 0x20; not altered
+ *   numbers, numbers_len   at least DAWNHAWSE_SSL_NUMBERS elements; those past the twelfth stay as they were
+ *
+ * Answers, the first that applies
+ *   DAWNHAWSE_NO_ROOM          numbers has fewer than 12 elements; it is as it was
+ *   DAWNHAWSE_WRONG_SSL        the value has fewer than 5 bytes, or sub-TLVs do not fill the rest of it; numbers: twelve zeros
+ *   DAWNHAWSE_NO_SSL_VERSION   bit 0x01 of the client byte is set, and there is no sub-TLV 0x21; numbers: twelve zeros
+ *   DAWNHAWSE_FOUND            numbers: client, verify, and for each type from 0x21 to 0x25 the piece's start and length in the value,
+ *                              0 and 0 where it is absent
+ */
+uint32_t dawnhawse_read_ssl(const uint8_t *value, size_t value_len, uint64_t *numbers, size_t numbers_len);
+
+/*
+ * Writes the value of TLV 0x20 to the front of the output: client, verify, and the pieces that are there, in order of type.
+ * dawnhawse_read_ssl gives the same client, verify and pieces of it, present and absent alike. To stand in a header, the value needs
+ * the three bytes of a TLV in front of it: 20 and its length, high byte first.
+ *
+ *   client, verify                   the client byte, of which any bits may be set, and the verify number
+ *   present                          which pieces are there, DAWNHAWSE_SSL_HAS_..; the three bits above them are ignored
+ *   version, version_len             sub-TLV 0x21; not altered. The bytes of a piece that is not there are not looked at, and its
+ *                                    length does not count: NULL and 0 will do
+ *   common_name, common_name_len     sub-TLV 0x22, the same
+ *   cipher, cipher_len               sub-TLV 0x23, the same
+ *   signature, signature_len         sub-TLV 0x24, the same
+ *   key, key_len                     sub-TLV 0x25, the same
+ *   out, out_len                     the output, of which DAWNHAWSE_LONGEST_SSL bytes are enough; bytes past the value stay
+ *   numbers, numbers_len             at least DAWNHAWSE_NUMBERS elements
+ *
+ * Answers, the first that applies; a refusal leaves both buffers as they were
+ *   DAWNHAWSE_NO_SSL_VERSION   bit 0x01 of the client byte is set, and the version is not there
+ *   DAWNHAWSE_TOO_LARGE        a piece or the value, 5 bytes and 3 more for each piece, has more than 65535 bytes
+ *   DAWNHAWSE_NO_ROOM          the output is shorter than the value, or numbers has fewer than 4 elements
+ *   DAWNHAWSE_WRITTEN          the value is written; numbers: its length, 0, 0, 0
+ */
+uint32_t dawnhawse_write_ssl(uint8_t client, uint32_t verify, uint8_t present, const uint8_t *version, size_t version_len,
+                             const uint8_t *common_name, size_t common_name_len, const uint8_t *cipher, size_t cipher_len,
+                             const uint8_t *signature, size_t signature_len, const uint8_t *key, size_t key_len, uint8_t *out,
+                             size_t out_len, uint64_t *numbers, size_t numbers_len);
 
 /*
  * Writes the version 1 line of a connection to the front of the output. Version 1 carries IPv4 stream, IPv6 stream and
@@ -596,6 +683,8 @@ static inline const char *dawnhawse_answer_name(uint32_t answer)
     case DAWNHAWSE_WRONG_VERSION: return "wrong-version";
     case DAWNHAWSE_UNKNOWN_KIND: return "unknown-kind";
     case DAWNHAWSE_WRONG_SIZE: return "wrong-size";
+    case DAWNHAWSE_WRONG_SSL: return "wrong-ssl";
+    case DAWNHAWSE_NO_SSL_VERSION: return "no-ssl-version";
     case DAWNHAWSE_WRONG_CHECKSUM: return "wrong-checksum";
     case DAWNHAWSE_WRONG_STATE: return "wrong-state";
     case DAWNHAWSE_NOT_ADMITTED_VERSION: return "not-admitted-version";

@@ -12,11 +12,12 @@ static const uint8_t stored[] = {'C', 'S', 'R', 0, 1, DAWNHAWSE_LOCAL};
 static const uint8_t stored_v2[] = {'C', 'S', 'R', 0, 2, DAWNHAWSE_LOCAL, DAWNHAWSE_CHECKSUM_ABSENT};
 static const uint8_t caller[DAWNHAWSE_CONNECTION] = {DAWNHAWSE_IP4_STREAM};
 static const uint8_t row[DAWNHAWSE_ROW] = {4, 8, 1, 10};
+static const uint8_t ssl[] = {0, 0, 0, 0, 1, 0x21, 0, 0};
 static const uint8_t local[] = {0x0d, 0x0a, 0x0d, 0x0a, 0x00, 0x0d, 0x0a, 'Q', 'U', 'I', 'T', 0x0a, 0x20, 0x00, 0, 0};
 
 /* What may be written, and one place more that never is. */
 static struct lent {
-    uint64_t numbers[DAWNHAWSE_NUMBERS + 1];
+    uint64_t numbers[DAWNHAWSE_SSL_NUMBERS + 1];
     uint8_t bytes[DAWNHAWSE_LONGEST_STORED_V2 + 1];
 } lent, kept;
 
@@ -51,6 +52,8 @@ static void hold(const char *call, uint32_t with_null, uint32_t with_pointer, ui
     } while (0)
 #define NOTHING nothing, 0
 #define NUMBERS lent.numbers, DAWNHAWSE_NUMBERS
+#define SSL_NUMBERS lent.numbers, DAWNHAWSE_SSL_NUMBERS
+#define SSL ssl, sizeof ssl
 #define BYTES lent.bytes, DAWNHAWSE_LONGEST_STORED_V2
 #define CALLER caller, sizeof caller
 #define STORED stored, sizeof stored
@@ -125,6 +128,14 @@ int main(void)
     HOLD(dawnhawse_back(STORED_V2, BYTES, NOTHING), DAWNHAWSE_NO_ROOM);
     HOLD(dawnhawse_back(NOTHING, NOTHING, NOTHING), DAWNHAWSE_WRONG_SIZE);
     HOLD(dawnhawse_crc32c(NOTHING), 0);
+    HOLD(dawnhawse_read_ssl(NOTHING, SSL_NUMBERS), DAWNHAWSE_WRONG_SSL);
+    HOLD(dawnhawse_read_ssl(SSL, NOTHING), DAWNHAWSE_NO_ROOM);
+    HOLD(dawnhawse_read_ssl(NOTHING, NOTHING), DAWNHAWSE_NO_ROOM);
+    HOLD(dawnhawse_write_ssl(0, 0, 0x1f, NOTHING, NOTHING, NOTHING, NOTHING, NOTHING, BYTES, NUMBERS), DAWNHAWSE_WRITTEN);
+    HOLD(dawnhawse_write_ssl(1, 0, 0x1e, NOTHING, NOTHING, NOTHING, NOTHING, NOTHING, BYTES, NUMBERS), DAWNHAWSE_NO_SSL_VERSION);
+    HOLD(dawnhawse_write_ssl(0, 0, 0, NOTHING, NOTHING, NOTHING, NOTHING, NOTHING, NOTHING, NUMBERS), DAWNHAWSE_NO_ROOM);
+    HOLD(dawnhawse_write_ssl(0, 0, 0, NOTHING, NOTHING, NOTHING, NOTHING, NOTHING, BYTES, NOTHING), DAWNHAWSE_NO_ROOM);
+    HOLD(dawnhawse_write_ssl(0, 0, 0, NOTHING, NOTHING, NOTHING, NOTHING, NOTHING, NOTHING, NOTHING), DAWNHAWSE_NO_ROOM);
     HOLD(dawnhawse_doorman(NOTHING, HEADER, NUMBERS), DAWNHAWSE_ADMITTED);
     HOLD(dawnhawse_doorman(ROW, NOTHING, NUMBERS), DAWNHAWSE_MORE);
     HOLD(dawnhawse_doorman(CUT_ROW, NOTHING, NUMBERS), DAWNHAWSE_WRONG_TABLE);

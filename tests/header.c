@@ -1,6 +1,7 @@
 /*
  * What the C header itself says, as C99 and as C++: each answer has a name of its own, the fields of a connection and of a table's row
- * fill them, those of the longest stored forms sum up to their lengths, and the release is its three numbers.
+ * fill them, those of the longest stored forms sum up to their lengths, those of a TLV 0x20 fill its numbers and bits, and the release is
+ * its three numbers.
  */
 #include <dawnhawse.h>
 #include <stdio.h>
@@ -20,7 +21,7 @@ static void check(int holds, const char *what)
 
 static int is_answer(uint32_t number)
 {
-    return number <= DAWNHAWSE_WRONG_SIZE || number == DAWNHAWSE_WRONG_CHECKSUM || number == DAWNHAWSE_WRONG_STATE
+    return number <= DAWNHAWSE_NO_SSL_VERSION || number == DAWNHAWSE_WRONG_CHECKSUM || number == DAWNHAWSE_WRONG_STATE
         || (number >= DAWNHAWSE_NOT_ADMITTED_VERSION && number <= DAWNHAWSE_WRONG_TABLE)
         || (number >= DAWNHAWSE_END && number <= DAWNHAWSE_MORE);
 }
@@ -52,6 +53,14 @@ int main(void)
           "the fields of a table's row fill it");
     check(3 + 2 + 1 + 108 + 108 == DAWNHAWSE_LONGEST_STORED && 3 + 2 + 1 + 1 + 108 + 108 == DAWNHAWSE_LONGEST_STORED_V2,
           "the fields of the longest stored forms sum up to their lengths");
+    check(DAWNHAWSE_SSL_CLIENT + 1 == DAWNHAWSE_SSL_VERIFY && DAWNHAWSE_SSL_VERIFY + 1 == DAWNHAWSE_SSL_VERSION
+              && DAWNHAWSE_SSL_VERSION + 2 == DAWNHAWSE_SSL_COMMON_NAME && DAWNHAWSE_SSL_COMMON_NAME + 2 == DAWNHAWSE_SSL_CIPHER
+              && DAWNHAWSE_SSL_CIPHER + 2 == DAWNHAWSE_SSL_SIGNATURE && DAWNHAWSE_SSL_SIGNATURE + 2 == DAWNHAWSE_SSL_KEY
+              && DAWNHAWSE_SSL_KEY + 2 == DAWNHAWSE_SSL_NUMBERS,
+          "client, verify and the pieces of a TLV 0x20 fill its numbers");
+    check((DAWNHAWSE_SSL_HAS_VERSION | DAWNHAWSE_SSL_HAS_COMMON_NAME | DAWNHAWSE_SSL_HAS_CIPHER | DAWNHAWSE_SSL_HAS_SIGNATURE
+           | DAWNHAWSE_SSL_HAS_KEY) == 0x1f,
+          "each piece of a TLV 0x20 has a bit of its own");
     snprintf(text, sizeof text, "%d.%d.%d", DAWNHAWSE_RELEASE_MAJOR, DAWNHAWSE_RELEASE_MINOR, DAWNHAWSE_RELEASE_PATCH);
     check(strcmp(text, DAWNHAWSE_RELEASE) == 0, "the release is its three numbers");
     printf("%d passed, %d failed\n", passed, failed);

@@ -9,7 +9,8 @@
 
 /* The arguments of the next call. */
 static uint8_t bytes[1024], connection[DAWNHAWSE_CONNECTION], out[1024], table[DAWNHAWSE_MOST_ROWS * DAWNHAWSE_ROW];
-static uint64_t numbers[DAWNHAWSE_NUMBERS];
+static uint64_t numbers[DAWNHAWSE_NUMBERS], ssl_numbers[DAWNHAWSE_SSL_NUMBERS];
+static uint8_t client, present;
 static size_t length, at, room, table_length;
 
 #define NUMBERS numbers, DAWNHAWSE_NUMBERS
@@ -20,6 +21,12 @@ static void do_read_checked(void) { dawnhawse_read_checked(bytes, length, NUMBER
 static void do_next(void) { dawnhawse_next(bytes, length, at, NUMBERS); }
 static void do_step(void) { dawnhawse_step(bytes, length, at, NUMBERS); }
 static void do_lookup(void) { dawnhawse_lookup(bytes, length, 0xee, at, NUMBERS); }
+static void do_read_ssl(void) { dawnhawse_read_ssl(bytes, length, ssl_numbers, at); }
+static void do_write_ssl(void)
+{
+    dawnhawse_write_ssl(client, 0x01020304, present, bytes, length, bytes, length, bytes, length, bytes, length, bytes, length, out, room,
+                        NUMBERS);
+}
 static void do_write_v1(void) { dawnhawse_write_v1(CONNECTION, out, room, NUMBERS); }
 static void do_write_v2(void) { dawnhawse_write_v2(CONNECTION, bytes, length, out, room, NUMBERS); }
 static void do_write_v2_checked(void) { dawnhawse_write_v2_checked(CONNECTION, bytes, length, out, room, NUMBERS); }
@@ -62,6 +69,8 @@ static struct most {
     {do_next, "dawnhawse_next", 0},
     {do_step, "dawnhawse_step", 0},
     {do_lookup, "dawnhawse_lookup", 0},
+    {do_read_ssl, "dawnhawse_read_ssl", 0},
+    {do_write_ssl, "dawnhawse_write_ssl", 0},
     {do_write_v1, "dawnhawse_write_v1", 0},
     {do_write_v2, "dawnhawse_write_v2", 0},
     {do_write_v2_checked, "dawnhawse_write_v2_checked", 0},
@@ -187,6 +196,29 @@ static void other_tables(void)
     measure(do_doorman);
 }
 
+/* Values of TLV 0x20 with every choice of pieces, written with room and without, and read as they are, cut and altered. */
+static void ssl_values(void)
+{
+    size_t written;
+
+    for (present = 0; present < 32; present++) {
+        client = present & DAWNHAWSE_SSL_CLIENT_TLS;
+        room = sizeof out;
+        length = present;
+        measure(do_write_ssl);
+        client ^= DAWNHAWSE_SSL_CLIENT_TLS;
+        measure(do_write_ssl);
+        client = 0;
+        do_write_ssl();
+        written = numbers[DAWNHAWSE_WRITTEN_LENGTH];
+        room = written - 1;
+        measure(do_write_ssl);
+        memcpy(bytes, out, written);
+        for (at = DAWNHAWSE_SSL_NUMBERS - 1; at <= DAWNHAWSE_SSL_NUMBERS; at++)
+            beginnings(do_read_ssl, written);
+    }
+}
+
 /* Headers of this kind with one byte altered, so that some do not keep the profile; then a local one of 16 + 0x209 = 537 bytes. */
 static void profile(const struct kind *kind)
 {
@@ -224,6 +256,7 @@ int main(void)
         beginnings(do_doorman, strlen(lines[i]));
     }
     zero_groups();
+    ssl_values();
     for (const struct kind *kind = kinds; kind < kinds + sizeof kinds / sizeof *kinds; kind++) {
         for (int byte = 0; byte < 256; byte++) {
             for (uint8_t state = DAWNHAWSE_CHECKSUM_ABSENT; state <= DAWNHAWSE_CHECKSUM_MATCHED; state++) {

@@ -24,6 +24,9 @@
 //! The checksum (document 02, K6) is the remainder of a division, bit by bit, of
 //! a copy of the header with zeros in place of the value.
 //!
+//! What a TLS front end says in TLV 0x20 (document 02, K2) is found in the list of
+//! the sub-TLVs there, for one type after the other.
+//!
 //! The profile of diagnostics (document 02, K14) takes each prefix of its table as
 //! a range of addresses; the smallest that holds the source gives the level.
 
@@ -42,6 +45,7 @@ mod prefix_table;
 mod profile;
 mod record;
 mod refusal;
+mod ssl;
 mod stored;
 mod tlv;
 mod tlv_area;
@@ -56,6 +60,7 @@ pub use judge::{judge, Judge};
 pub use lookup::{lookup, Answer, Lookup};
 pub use profile::{admit, Admission};
 pub use record::{Checksum, Kind, Record, Transport};
+pub use ssl::{read_ssl, write_ssl, Ssl};
 pub use stored::{back, forward, load, store, StoredVersion};
 pub use tlv_area::{next, step, tlv_list, Step};
 pub use verdict::{Header, Verdict};

@@ -9,8 +9,8 @@ pub const UNUSED_NOT_ZERO: u8 = 11;
 /// A TLV area is ill-formed, or non-empty beside local or unspecified, or a
 /// checksum cannot be added.
 pub const TLV_AREA: u8 = 12;
-/// Address block and TLVs exceed 65,535 bytes.
-pub const BLOCK_TOO_LONG: u8 = 13;
+/// Address block and TLVs, or a piece or the value of TLV 0x20, exceed 65,535 bytes.
+pub const LENGTH_OVER_65535: u8 = 13;
 /// The output is shorter than what must be written.
 pub const OUTPUT_TOO_SHORT: u8 = 14;
 
@@ -18,6 +18,11 @@ pub const STORED_MARK: u8 = 15;
 pub const STORED_VERSION: u8 = 16;
 pub const STORED_KIND_CODE: u8 = 17;
 pub const STORED_LENGTH: u8 = 18;
+
+/// The value of TLV 0x20 has under 5 bytes or ill-formed sub-TLVs.
+pub const SSL_VALUE: u8 = 19;
+/// Client bit 0x01 is set, but there is no sub-TLV 0x21.
+pub const SSL_VERSION: u8 = 20;
 
 /// A whole header's checksum is wrong.
 pub const WRONG_CHECKSUM: u8 = 23;

@@ -21,7 +21,7 @@ use Rattle.answer.specs.declared.Reading.{Reading}
 use Rattle.answer.specs.declared.Written.{Written}
 use Rattle.answer.specs.declared.Written.the-variants.{Bytes, Refused as Refuses}
 use Rattle.answer.specs.declared.Fault.{Fault}
-use Rattle.answer.specs.declared.Fault.the-variants.{Form, Unused, Area, Size, Room, State}
+use Rattle.answer.specs.declared.Fault.the-variants.{Form, Unused, Area, Size, Room, Version, State}
 
 -- document 01, "Numbered answers"
 abbrev pub numberOf : Refusal → ℕ
@@ -35,13 +35,14 @@ numberOf Family = 7
 numberOf Length = 8
 numberOf Tlv = 9
 
--- the writers' refusals; 24 is a state that a stored form cannot say (document 02, K7)
+-- the writers' refusals; 20 is a client without a version (document 02, K2), 24 a state that a stored form cannot say (K7)
 abbrev pub faultNumber : Fault → ℕ
 faultNumber Form = 10
 faultNumber Unused = 11
 faultNumber Area = 12
 faultNumber Size = 13
 faultNumber Room = 14
+faultNumber Version = 20
 faultNumber State = 24
 
 -- what a writer answers: how many bytes it wrote, or the number of its refusal

@@ -37,13 +37,14 @@ pub struct Reading {
     pub record: Record,
 }
 
-// Why nothing is written: document 01's numbers 10 to 14, and document 02's 24.
+// Why nothing is written: document 01's numbers 10 to 14, and document 02's 20 and 24.
 pub enum Fault {
     Form,
     Unused,
     Area,
     Size,
     Room,
+    Version,
     State,
 }
 
@@ -137,6 +138,7 @@ pub fn fault_number(fault: Fault) -> u8
         Fault::Area => 12,
         Fault::Size => 13,
         Fault::Room => 14,
+        Fault::Version => 20,
         Fault::State => 24,
     }
 }

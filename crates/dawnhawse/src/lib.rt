@@ -3,6 +3,7 @@
 mod crc32c;
 mod doorman;
 mod read;
+mod ssl;
 mod stored;
 mod tlvs;
 mod write;
@@ -11,6 +12,8 @@ pub use crc32c::dawnhawse_crc32c;
 pub use doorman::dawnhawse_doorman;
 pub use read::dawnhawse_read;
 pub use read::dawnhawse_read_checked;
+pub use ssl::dawnhawse_read_ssl;
+pub use ssl::dawnhawse_write_ssl;
 pub use stored::dawnhawse_back;
 pub use stored::dawnhawse_forward;
 pub use stored::dawnhawse_load;

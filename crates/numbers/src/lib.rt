@@ -9,6 +9,7 @@ use stored_form::Outcome;
 use stored_form::flaw_number;
 ghost use mathlib.Core.Path.{_≡_};
 ghost use mathlib.Core.List.{[], _∷_};
+ghost use lib.ListN.{length};
 ghost use Rattle.record.specs.declared.Record.{Record};
 ghost use Rattle.lent.specs.Buffers.{toldIn};
 ghost use Rattle.answer.specs.Answers.{toldWritten};
@@ -39,6 +40,20 @@ pub fn put_numbers(out: &mut [u64], first: u64, second: u64, start: u64, size: u
     out[1] = second;
     out[2] = start;
     out[3] = size;
+}
+
+// Puts numbers at the front of the output, where it has room for all of them; else it stays as it is.
+pub fn put_all(told: &[u64], out: &mut [u64])
+    ensures { λ _. ⌜ now (out .exit) ≡ toldIn (length (now (told .entry))) (now (told .entry)) (now (out .entry)) ⌝ }
+{
+    if out.len() < told.len() {
+        return;
+    }
+    let mut i: usize = 0;
+    while i < told.len() {
+        out[i] = told[i];
+        i += 1;
+    }
 }
 
 // What a verdict on size bytes and the kind tell.

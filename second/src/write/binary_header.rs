@@ -4,7 +4,7 @@ use crate::address_block::address_block;
 use crate::fixed_bytes::{LOCAL, PROXY, SIGNATURE, UNSPECIFIED};
 use crate::output::write_whole;
 use crate::record::{Kind, Record};
-use crate::refusal::{BLOCK_TOO_LONG, TLV_AREA, UNUSED_NOT_ZERO};
+use crate::refusal::{LENGTH_OVER_65535, TLV_AREA, UNUSED_NOT_ZERO};
 use crate::tlv_area::tlv_list;
 use crate::unused::only_its_block;
 
@@ -29,7 +29,7 @@ pub fn header(record: &Record, area: &[u8]) -> Result<Vec<u8>, u8> {
     };
     let family = record.kind.written_byte().unwrap_or(UNSPECIFIED);
     let block = [&address_block(record), area].concat();
-    let length = u16::try_from(block.len()).map_err(|_| BLOCK_TOO_LONG)?;
+    let length = u16::try_from(block.len()).map_err(|_| LENGTH_OVER_65535)?;
     let start = [command, family];
     Ok([&SIGNATURE[..], &start, &length.to_be_bytes(), &block].concat())
 }

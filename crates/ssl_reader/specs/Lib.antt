@@ -1,0 +1,4 @@
+pub mod Ssl
+pub mod Told
+pub mod Laws
+pub mod Noted

@@ -1,0 +1,56 @@
+-- The reader's answer in document 02's terms.
+use mathlib.Core.Path.{_≡_}
+use mathlib.Core.List.{List, [], _∷_}
+use mathlib.Core.Option.{Option, some, none}
+use Prim.Native.Nat.{ℕ, _+_, min}
+use lib.ListN.{length, take, drop}
+use denote.Ref.{RefT, now}
+use Rattle.ssl_reader.specs.Ssl as Spec
+use Rattle.ssl_reader.specs.Ssl.{Part, Said, accepted, refused}
+use Rattle.ssl_reader.specs.declared.Piece.{Piece}
+use Rattle.ssl_reader.specs.declared.Piece.the-variants.{Absent, Part as PartAt}
+use Rattle.ssl_reader.specs.declared.Outcome.{Outcome}
+use Rattle.ssl_reader.specs.declared.Outcome.the-variants.{Accepted, IllFormed, NoVersion}
+use Rattle.ssl_reader.specs.declared.Ssl.{Ssl}
+
+abbrev pub toldPart : Piece → Option Part
+toldPart Absent = none
+toldPart (PartAt start size) = some (record { start = start; size = size })
+
+abbrev pub toldParts : List Piece → List (Option Part)
+toldParts [] = []
+toldParts (p ∷ rest) = toldPart p ∷ toldParts rest
+
+-- "19 for a value under 5 bytes or ill-formed sub-TLVs, then 20"
+abbrev pub toldOutcome : Outcome → Spec.Outcome
+toldOutcome Accepted = accepted
+toldOutcome IllFormed = refused 19
+toldOutcome NoVersion = refused 20
+
+abbrev pub toldSsl : Ssl → Said
+toldSsl r =
+    record {
+      outcome = toldOutcome (r .outcome);
+      client = r .client;
+      verify = r .verify;
+      parts = toldParts (r .version ∷ r .«common_name» ∷ r .cipher ∷ r .signature ∷ r .key ∷ []);
+    }
+
+-- where a part starts, and its length; an absent one is taken as the empty part at 0
+abbrev pub startOf : Option Part → ℕ
+startOf none = 0
+startOf (some p) = p .start
+
+abbrev pub sizeOf : Option Part → ℕ
+sizeOf none = 0
+sizeOf (some p) = p .size
+
+abbrev pub bytesOf : (value : List ℕ) → Option Part → List ℕ
+bytesOf value p = take (sizeOf p) (drop (startOf p) value)
+
+-- "as a part of the lent bytes": it starts so far into the value's memory, though not beyond its end, and has those bytes
+abbrev pub PartOf : RefT (List ℕ) → Option Part → RefT (List ℕ) → Type 0
+PartOf value p part =
+    (part .ptr .0 ≡ value .ptr .0)
+    × (part .ptr .1 ≡ value .ptr .1 + min (startOf p) (length (now value)))
+    × (now part ≡ bytesOf (now value) p)

@@ -1,0 +1,5 @@
+pub mod Written
+pub mod Writes
+pub mod Steps
+pub mod ReadBack
+pub mod Again
