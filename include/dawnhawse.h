@@ -23,7 +23,7 @@
  *   dawnhawse_next                  64   nothing: one TLV is looked at
  *   dawnhawse_step                  64   the TLVs from the place to the end of the area, each looked at once
  *   dawnhawse_lookup                64   the TLVs of the area, each looked at once, and those examined once more
- *   dawnhawse_read_ssl             320   the sub-TLVs of the value, each looked at once
+ *   dawnhawse_read_ssl             128   the sub-TLVs of the value, each looked at once
  *   dawnhawse_write_ssl            192   the bytes written
  *   dawnhawse_write_v1            1600   nothing: at most 104 bytes are written
  *   dawnhawse_write_v2            1216   the TLVs of the area, each looked at once, and the bytes written

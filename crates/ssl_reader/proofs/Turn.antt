@@ -3,7 +3,7 @@ use mathlib.Core.Path.{_≡_, refl, sym, ap, ap₂, _∙_, subst}
 use mathlib.Core.Bool.{Bool, true, false}
 use mathlib.Core.List.{List, [], _∷_, _++_, append-nil, append-assoc}
 use mathlib.Core.Option.{Option, none}
-use Prim.Native.Nat.{ℕ, zero, suc, _+_, _≤_, _<_}
+use Prim.Native.Nat.{ℕ, suc, _+_, _≤_, _<_}
 use native.Mathlib.Omega.{arith}
 use borrow.Author.Tests.{leb-true, leb-false}
 use lib.Dec.{leb}
@@ -16,33 +16,27 @@ use Rattle.tlv.specs.Heads.{sizeAt, size-room, tlvAt, tlv-size, tlv-area, tlv-s
 use Rattle.tlv_step.specs.Step.{Step, shown, end, refused, headAt}
 use Rattle.tlv_step.specs.Facts.{head-due}
 use Rattle.lookup.specs.Joining.{join-ill-formed}
-use Rattle.ssl_reader.specs.Ssl.{Part, accepted, partsOf, nothing, isAbsent, lacksVersion, clientOf, verifyOf, saidBy, saidIn}
-use Rattle.ssl_reader.specs.Told.{toldPart, toldParts}
+use Rattle.ssl_reader.specs.Ssl.{Part, Said, accepted, partOf, partsOf, nothing, isAbsent, lacksVersion, clientOf, verifyOf, saidBy, saidIn}
 use Rattle.ssl_reader.specs.Laws.{said-listed, said-ill}
-use Rattle.ssl_reader.specs.Noted.{noted, parts-noted}
-use Rattle.ssl_reader.specs.declared.Piece.{Piece}
-use Rattle.ssl_reader.specs.declared.Piece.the-variants.{Absent}
+use Rattle.ssl_reader.specs.Noted.{foundPart, foundParts, noted, parts-noted}
+use Rattle.ssl_reader.proofs.NoteLaws.{place, found-at}
 
--- the sub-TLVs up to a place, and their pieces
-pub record Passed (value : List ℕ) (pieces : List Piece) (at : ℕ) : Type 0 where
+-- the sub-TLVs up to a place, and what was found of them
+pub record Passed (value found : List ℕ) (at : ℕ) : Type 0 where
   front : List ℕ
   subs : List Tlv
   area : Area front subs
   split : drop 5 value ≡ front ++ drop at value
-  place : 5 + length front ≡ at
-  parts : toldParts pieces ≡ partsOf subs
+  place-is : 5 + length front ≡ at
+  parts : foundParts found ≡ partsOf subs
+  pub ten : length found ≡ 10
   pub within : at ≤ length value
 
-told-at : (ps : List Piece) (i : ℕ) → getD (toldParts ps) i none ≡ toldPart (getD ps i Absent)
-told-at [] i = refl
-told-at (p ∷ ps) zero = refl
-told-at (p ∷ ps) (suc i) = told-at ps i
-
 module _ (value : List ℕ) where
-  pub passed-none : 5 ≤ length value → Passed value (replicate 5 Absent) 5
-  passed-none h = record { front = []; subs = []; area = (refl, tt); split = refl; place = refl; parts = refl; within = h }
+  pub passed-none : 5 ≤ length value → Passed value (replicate 10 0) 5
+  passed-none h = record { front = []; subs = []; area = (refl, tt); split = refl; place-is = refl; parts = refl; ten = refl; within = h }
 
-  module _ (pieces : List Piece) (at : ℕ) (p : Passed value pieces at) where
+  module _ (found : List ℕ) (at : ℕ) (p : Passed value found at) where
     -- what stands at the place
     abbrev next : Bool → Step
     next fits = pick fits (shown (getD value at 0) (at + 3) (sizeAt value at)) (refused 12)
@@ -61,15 +55,15 @@ module _ (value : List ℕ) where
         by false e f = let z : _≡_ {A = ℕ} 0 1 = cc in absurd (omega arith)
 
     -- another sub-TLV is passed
-    passed-next : AllBytes value → at + 3 + sizeAt value at ≤ length value → (after : List Piece)
-        → toldParts after ≡ noted (getD value at 0) (record { start = at + 3; size = sizeAt value at }) 0x21 (toldParts pieces)
+    passed-next : AllBytes value → at + 3 + sizeAt value at ≤ length value → (after : List ℕ) → length after ≡ 10
+        → foundParts after ≡ noted (getD value at 0) (record { start = at + 3; size = sizeAt value at }) 0x21 (foundParts found)
         → Passed value after (at + 3 + sizeAt value at)
-    passed-next bytes room after e =
+    passed-next bytes room after ten e =
         let t = tlvAt value at in
         let behind = drop (at + 3 + sizeAt value at) value in
         let size = tlv-size value at bytes room in
         let n = length-append (p .front) (tlvBytes (t .type) (t .value)) in
-        let start : at + 3 ≡ 5 + (length (written (p .subs)) + 3) = let w = ap length (p .area .0) in omega (arith, p .place) in
+        let start : at + 3 ≡ 5 + (length (written (p .subs)) + 3) = let w = ap length (p .area .0) in omega (arith, p .place-is) in
         record {
           front = p .front ++ tlvBytes (t .type) (t .value);
           subs = p .subs ++ t ∷ [];
@@ -78,7 +72,8 @@ module _ (value : List ℕ) where
               p .split
               ∙ ap (λ (l : List ℕ). p .front ++ l) (tlv-split value at bytes room)
               ∙ sym (append-assoc (p .front) (tlvBytes (t .type) (t .value)) behind);
-          place = omega (arith, p .place);
+          place-is = omega (arith, p .place-is);
+          ten = ten;
           parts =
               e
               ∙ ap₂ (λ (q : Part) (l : List (Option Part)). noted (t .type) q 0x21 l) (λ k. record { start = start k; size = sym size k }) (p .parts)
@@ -86,12 +81,12 @@ module _ (value : List ℕ) where
           within = room;
         }
 
-    pub passed-here : AllBytes value → (type start size : ℕ) → Here type start size → (after : List Piece)
-        → toldParts after ≡ noted type (record { start = start; size = size }) 0x21 (toldParts pieces) → Passed value after (start + size)
-    passed-here bytes type start size h after e =
+    pub passed-here : AllBytes value → (type start size : ℕ) → Here type start size → (after : List ℕ) → length after ≡ 10
+        → foundParts after ≡ noted type (record { start = start; size = size }) 0x21 (foundParts found) → Passed value after (start + size)
+    passed-here bytes type start size h after ten e =
         subst (Passed value after) (λ k. sym (h .is-start) k + sym (h .is-size) k)
-        (passed-next bytes (h .room) after
-        (e ∙ (λ k. noted (h .is-type k) (record { start = h .is-start k; size = h .is-size k }) 0x21 (toldParts pieces))))
+        (passed-next bytes (h .room) after ten
+        (e ∙ (λ k. noted (h .is-type k) (record { start = h .is-start k; size = h .is-size k }) 0x21 (foundParts found))))
 
     -- one that does not end in the value
     abbrev isShown : Step → Bool
@@ -120,36 +115,39 @@ module _ (value : List ℕ) where
           subst (λ (l : List ℕ). Area l (p .subs)) (sym (p .split ∙ ap (λ (l : List ℕ). p .front ++ l) rest ∙ append-nil (p .front))) (p .area)
 
       said : saidIn value ≡ saidBy (clientOf value) (verifyOf value) (p .subs)
-      said = said-listed value (omega (arith, p .place, p .within)) (p .subs) whole
+      said = said-listed value (omega (arith, p .place-is, p .within)) (p .subs) whole
 
-      piece : (i : ℕ) → toldPart (getD pieces i Absent) ≡ getD (partsOf (p .subs)) i none
-      piece i = sym (told-at pieces i) ∙ ap (λ (l : List (Option Part)). getD l i none) (p .parts)
+      piece : (i : ℕ) → suc (place i) < 10 → foundPart (getD found (place i) 0) (getD found (suc (place i)) 0) ≡ getD (partsOf (p .subs)) i none
+      piece i h = found-at i found (omega (arith, p .ten)) ∙ ap (λ (l : List (Option Part)). getD l i none) (p .parts)
 
-      by-version : (lacks : Bool) → lacksVersion (clientOf value) (isAbsent (toldPart (getD pieces 0 Absent))) ≡ lacks
-          → saidIn value
-          ≡ pick lacks (nothing 20) (record { outcome = accepted; client = clientOf value; verify = verifyOf value; parts = partsOf (p .subs) })
-      by-version lacks e =
-          said
-          ∙ ap (λ (b : Bool). pick b (nothing 20) (record { outcome = accepted; client = clientOf value; verify = verifyOf value; parts = partsOf (p .subs) }))
-          (ap (λ (o : Option Part). lacksVersion (clientOf value) (isAbsent o)) (sym (piece 0)) ∙ e)
+      abbrev says : List (Option Part) → Said
+      says parts = record { outcome = accepted; client = clientOf value; verify = verifyOf value; parts = parts }
 
-      pub no-version : lacksVersion (clientOf value) (isAbsent (toldPart (getD pieces 0 Absent))) ≡ true → saidIn value ≡ nothing 20
-      no-version = by-version true
+      -- by the version's part
+      module _ (v : Option Part) (is-v : v ≡ foundPart (getD found 0 0) (getD found 1 0)) where
+        first : v ≡ partOf 0x21 (p .subs)
+        first = is-v ∙ piece 0 (omega arith)
 
-      pub accepts : lacksVersion (clientOf value) (isAbsent (toldPart (getD pieces 0 Absent))) ≡ false
-          → saidIn value
-          ≡ record {
-            outcome = accepted;
-            client = clientOf value;
-            verify = verifyOf value;
-            parts = toldParts (getD pieces 0 Absent ∷ getD pieces 1 Absent ∷ getD pieces 2 Absent ∷ getD pieces 3 Absent ∷ getD pieces 4 Absent ∷ []);
-          }
-      accepts e =
-          by-version false e
-          ∙ (λ k.
-          record {
-            outcome = accepted;
-            client = clientOf value;
-            verify = verifyOf value;
-            parts = sym (piece 0) k ∷ sym (piece 1) k ∷ sym (piece 2) k ∷ sym (piece 3) k ∷ sym (piece 4) k ∷ [];
-          })
+        by-version : (lacks : Bool) → lacksVersion (clientOf value) (isAbsent v) ≡ lacks → saidIn value ≡ pick lacks (nothing 20) (says (partsOf (p .subs)))
+        by-version lacks e =
+            said
+            ∙ ap (λ (b : Bool). pick b (nothing 20) (says (partsOf (p .subs))))
+            (ap (λ (o : Option Part). lacksVersion (clientOf value) (isAbsent o)) (sym first) ∙ e)
+
+        pub no-version : lacksVersion (clientOf value) (isAbsent v) ≡ true → saidIn value ≡ nothing 20
+        no-version = by-version true
+
+        pub accepts : lacksVersion (clientOf value) (isAbsent v) ≡ false → (n c s k : Option Part)
+            → n ≡ foundPart (getD found 2 0) (getD found 3 0) → c ≡ foundPart (getD found 4 0) (getD found 5 0)
+            → s ≡ foundPart (getD found 6 0) (getD found 7 0) → k ≡ foundPart (getD found 8 0) (getD found 9 0)
+            → saidIn value ≡ says (v ∷ n ∷ c ∷ s ∷ k ∷ [])
+        accepts e n c s k is-n is-c is-s is-k =
+            by-version false e
+            ∙ (λ i.
+            says
+            (sym first i
+            ∷ sym (is-n ∙ piece 1 (omega arith)) i
+            ∷ sym (is-c ∙ piece 2 (omega arith)) i
+            ∷ sym (is-s ∙ piece 3 (omega arith)) i
+            ∷ sym (is-k ∙ piece 4 (omega arith)) i
+            ∷ []))

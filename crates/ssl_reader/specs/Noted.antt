@@ -14,6 +14,15 @@ use Rattle.lookup.specs.Lookup.{firstOf}
 use Rattle.lookup.specs.JoinedLists.{either, first-joined, start-first, start-second, length-first, length-second}
 use Rattle.ssl_reader.specs.Ssl.{Part, partAt, partOf, partsFrom}
 
+-- parts as numbers, a start and a length each; none starts at 0
+abbrev pub foundPart : (start size : ℕ) → Option Part
+foundPart start size = pick (eqb start 0) none (some (record { start = start; size = size }))
+
+abbrev pub foundParts : List ℕ → List (Option Part)
+foundParts [] = []
+foundParts (start ∷ []) = []
+foundParts (start ∷ size ∷ rest) = foundPart start size ∷ foundParts rest
+
 -- the part that was there first, or else this one
 abbrev pub orPart : Option Part → Part → Option Part
 orPart (some p) q = some p

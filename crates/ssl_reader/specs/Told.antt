@@ -17,10 +17,6 @@ abbrev pub toldPart : Piece → Option Part
 toldPart Absent = none
 toldPart (PartAt start size) = some (record { start = start; size = size })
 
-abbrev pub toldParts : List Piece → List (Option Part)
-toldParts [] = []
-toldParts (p ∷ rest) = toldPart p ∷ toldParts rest
-
 -- "19 for a value under 5 bytes or ill-formed sub-TLVs, then 20"
 abbrev pub toldOutcome : Outcome → Spec.Outcome
 toldOutcome Accepted = accepted
@@ -33,7 +29,7 @@ toldSsl r =
       outcome = toldOutcome (r .outcome);
       client = r .client;
       verify = r .verify;
-      parts = toldParts (r .version ∷ r .«common_name» ∷ r .cipher ∷ r .signature ∷ r .key ∷ []);
+      parts = toldPart (r .version) ∷ toldPart (r .«common_name») ∷ toldPart (r .cipher) ∷ toldPart (r .signature) ∷ toldPart (r .key) ∷ [];
     }
 
 -- where a part starts, and its length; an absent one is taken as the empty part at 0

@@ -6,10 +6,11 @@ use tlv_step::Shown;
 use tlv_step::head_at;
 ghost use mathlib.Core.Path.{_≡_};
 ghost use mathlib.Core.Option.{none};
-ghost use lib.ListN.{replicate};
+ghost use Prim.Native.Nat.{_<_};
+ghost use lib.ListN.{length, replicate};
 ghost use Rattle.ssl_reader.specs.Ssl.{isAbsent, lacksVersion, saidIn};
-ghost use Rattle.ssl_reader.specs.Told.{toldPart, toldParts, toldOutcome, toldSsl, PartOf};
-ghost use Rattle.ssl_reader.specs.Noted.{orPart, noted};
+ghost use Rattle.ssl_reader.specs.Told.{toldPart, toldOutcome, toldSsl, PartOf};
+ghost use Rattle.ssl_reader.specs.Noted.{foundPart, foundParts, noted};
 
 // The first sub-TLV of a type: where its value starts in the value of TLV 0x20, and its length; or that there is none. Empty is not absent.
 pub enum Piece {
@@ -36,34 +37,34 @@ pub struct Ssl {
     pub key: Piece,
 }
 
-// The piece that was seen first: this one, or where it is absent the part that is found now.
-fn first_of(seen: Piece, start: usize, length: usize) -> Piece
-    ensures { λ r. ⌜ toldPart r ≡ orPart (toldPart seen) (record { start = start; size = length }) ⌝ }
-{
-    match seen {
-        Piece::Absent => Piece::Part { start, length },
-        Piece::Part {
-            start: _,
-            length: _,
-        } => seen,
-    }
-}
-
-// Notes a sub-TLV: the first of its type is the piece; other types and repeated ones are passed over.
-fn note(pieces: [Piece; 5], tlv_type: u8, start: usize, length: usize) -> [Piece; 5]
-    ensures { λ r. ⌜ toldParts r ≡ noted «tlv_type» (record { start = start; size = length }) 0x21 (toldParts pieces) ⌝ }
+// Notes a sub-TLV in ten numbers, a start and a length for each type: the first of its type is the piece; other types and repeated ones are passed over.
+fn note(found: &mut [usize], tlv_type: u8, start: usize, size: usize)
+    requires { ⌜ (length (now found) ≡ 10) × (0 < start) ⌝ }
+    ensures { λ _. ⌜ (length (now (found .exit)) ≡ 10) × (foundParts (now (found .exit)) ≡ noted «tlv_type» (record { start = start; size = size }) 0x21 (foundParts (now (found .entry)))) ⌝ }
 {
     if tlv_type < 0x21 {
-        return pieces;
+        return;
     }
-    let i = (tlv_type - 0x21) as usize;
-    if 4 < i {
-        return pieces;
+    let i = (tlv_type - 0x21) as usize * 2;
+    if 8 < i {
+        return;
     }
-    let mut noted = pieces;
-    let seen = noted[i];
-    noted[i] = first_of(seen, start, length);
-    noted
+    if found[i] != 0 {
+        return;
+    }
+    found[i] = start;
+    found[i + 1] = size;
+}
+
+// A piece by where it starts: none does at 0.
+fn piece_at(start: usize, length: usize) -> Piece
+    ensures { λ r. ⌜ toldPart r ≡ foundPart start length ⌝ }
+{
+    if start == 0 {
+        Piece::Absent
+    } else {
+        Piece::Part { start, length }
+    }
 }
 
 // What is told where nothing is read.
@@ -109,7 +110,7 @@ pub fn read_ssl(value: &[u8]) -> Ssl
     if value.len() < 5 {
         return unread(Outcome::IllFormed);
     }
-    let mut pieces = [Piece::Absent; 5];
+    let mut found = [0usize; 10];
     let mut at: usize = 5;
     while at < value.len() {
         match head_at(value, at) {
@@ -118,7 +119,7 @@ pub fn read_ssl(value: &[u8]) -> Ssl
                 start,
                 length,
             } => {
-                pieces = note(pieces, tlv_type, start, length);
+                note(&mut found, tlv_type, start, length);
                 at = start + length;
             }
             Shown::End => return unread(Outcome::IllFormed),
@@ -126,14 +127,14 @@ pub fn read_ssl(value: &[u8]) -> Ssl
         }
     }
     let client = value[0];
-    let version = pieces[0];
+    let version = piece_at(found[0], found[1]);
     if lacks_version(client, is_absent(version)) {
         return unread(Outcome::NoVersion);
     }
-    let common_name = pieces[1];
-    let cipher = pieces[2];
-    let signature = pieces[3];
-    let key = pieces[4];
+    let common_name = piece_at(found[2], found[3]);
+    let cipher = piece_at(found[4], found[5]);
+    let signature = piece_at(found[6], found[7]);
+    let key = piece_at(found[8], found[9]);
     Ssl {
         outcome: Outcome::Accepted,
         client,
