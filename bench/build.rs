@@ -1,7 +1,7 @@
 //! Compiles the C code and links it; the proved library is linked by `compare`.
 use std::process::Command;
 
-const NAMES: [&str; 4] = ["parser", "stored", "writer", "admit"];
+const NAMES: [&str; 5] = ["parser", "stored", "writer", "admit", "ssl"];
 
 fn main() {
     let here = env!("CARGO_MANIFEST_DIR");

@@ -1,5 +1,5 @@
-//! The headers, connections and stored forms that are taken, each with the ratio to the C code that the library is to keep to, and
-//! the table of prefixes.
+//! The headers, connections, stored forms and SSL values that are taken, each with the ratio to the C code that the library is to keep
+//! to, and the table of prefixes.
 
 /// What is done with the bytes.
 #[derive(Clone, Copy, PartialEq)]
@@ -17,6 +17,10 @@ pub enum Call {
     Forward,
     /// A header is held to the profile, and its source gets a level by the table.
     Admit,
+    /// The value of TLV 0x20 is read.
+    ReadSsl,
+    /// The value of TLV 0x20 is written from client, verify, which pieces are there, and the pieces.
+    WriteSsl,
 }
 
 pub struct Input {
@@ -37,14 +41,16 @@ impl Input {
         (self.first..=self.bytes.len()).map(|n| &self.bytes[..n]).collect()
     }
 
-    /// The bytes with one of them changed so that they are refused: the last of a checksum, the first of a connection or a mark, or the
-    /// type of the unique ID.
+    /// The bytes with one of them changed so that they are refused: the last of a checksum, the first of a connection or a mark, the type
+    /// of the unique ID or of an SSL value's version, or whether that version is there.
     pub fn spoilt(&self) -> Option<Vec<u8>> {
         let place = match self.call {
             Call::Read => return None,
             Call::ReadChecked => self.bytes.len() - 1,
             Call::WriteLine | Call::Store | Call::Load | Call::Forward => 0,
             Call::Admit => self.bytes.len() - UNIQUE_ID.len() - 3,
+            Call::ReadSsl => self.bytes.len() - sub_tlvs().len(),
+            Call::WriteSsl => SSL_HEAD.len(),
         };
         let mut spoilt = self.bytes.clone();
         spoilt[place] ^= 1;
@@ -72,6 +78,9 @@ pub fn inputs() -> Vec<Input> {
         taken("load", "IPv4, loaded", Call::Load, form(&[2, 0x11, 1])),
         taken("forward", "IPv4, moved forward", Call::Forward, form(&[1, 0x11])),
         Input { table: table(), ..taken("admit", "IPv6, a table of 64 rows", Call::Admit, with_tlvs()) },
+        taken("read-ssl", "SSL value read", Call::ReadSsl, [&SSL_HEAD[..], &sub_tlvs()].concat()),
+        taken("read-ssl-ten", "SSL value read, ten in front", Call::ReadSsl, [&SSL_HEAD[..], &ten_sub_tlvs(), &sub_tlvs()].concat()),
+        taken("write-ssl", "SSL value written", Call::WriteSsl, [&SSL_HEAD[..], &[0b11111], &PIECES.concat()].concat()),
     ]
 }
 
@@ -123,9 +132,12 @@ fn path(name: &str) -> [u8; 108] {
 
 const UNIQUE_ID: &[u8] = b"0123456789abcdef";
 
+fn tlv(kind: u8, value: &[u8]) -> Vec<u8> {
+    [&[kind, 0, value.len() as u8], value].concat()
+}
+
 /// ALPN, AUTHORITY and UNIQUE_ID.
 fn tlvs() -> Vec<u8> {
-    let tlv = |kind: u8, value: &[u8]| [&[kind, 0, value.len() as u8], value].concat();
     [tlv(0x01, b"h2"), tlv(0x02, b"screen.example.com"), tlv(0x05, UNIQUE_ID)].concat()
 }
 
@@ -158,4 +170,20 @@ fn with_checksum(size: usize) -> Vec<u8> {
     let sum = second::crc32c(&bytes).to_be_bytes();
     bytes[size - sum.len()..].copy_from_slice(&sum);
     bytes
+}
+
+/// Client, over TLS and with a certificate, and a verify number whose bytes differ.
+const SSL_HEAD: [u8; 5] = [0x07, 1, 2, 3, 4];
+
+/// Version, common name, cipher, signature algorithm and key algorithm.
+pub const PIECES: [&[u8]; 5] = [b"TLSv1.3", b"tester-7.screens.north.example.com", b"TLS_AES_256_GCM_SHA384", b"RSA-SHA256", b"RSA2048"];
+
+/// The pieces in order of type, from 0x21.
+fn sub_tlvs() -> Vec<u8> {
+    (0x21..).zip(PIECES).flat_map(|(kind, piece)| tlv(kind, piece)).collect()
+}
+
+/// Six of other types, then all types but that of the version: where these stand in front, theirs are the first.
+fn ten_sub_tlvs() -> Vec<u8> {
+    (0xE0..=0xE5).chain(0x22..=0x25).flat_map(|kind| tlv(kind, b"other")).collect()
 }

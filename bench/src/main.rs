@@ -1,4 +1,5 @@
-//! Times the proved library, C code and the second program on the same headers, connections and stored forms, and prints what each costs.
+//! Times the proved library, C code and the second program on the same headers, connections, stored forms and SSL values, and prints what
+//! each costs.
 //! Usage: bench                                                  both tables
 //!        bench --only library|c|second --input NAME --count N   takes one input N times and prints nothing, for profilers
 mod inputs;
