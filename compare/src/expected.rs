@@ -1,7 +1,8 @@
 //! What the C functions must leave: the words of include/dawnhawse.h, with the second program's answers.
 use crate::connection::{self, SIZE};
-use crate::{Left, BYTE, NUMBER};
-use second::{Admission, Answer, Kind, Record, Step, StoredVersion, Verdict};
+use crate::ssl_values::Given;
+use crate::{Left, BYTE, NUMBER, SSL_NUMBERS};
+use second::{Admission, Answer, Kind, Record, Ssl, Step, StoredVersion, Verdict};
 
 const NO_ROOM: u32 = 14;
 pub const END: u32 = 252;
@@ -14,10 +15,10 @@ pub fn untouched(answer: u32, numbers_len: usize, bytes_len: usize) -> Left {
     Left { answer, numbers: vec![NUMBER; numbers_len], bytes: vec![BYTE; bytes_len] }
 }
 
-/// Four numbers at the front of the numbers, which have room.
-fn told(answer: u32, four: [u64; 4], numbers_len: usize, bytes: Vec<u8>) -> Left {
+/// So many numbers at the front of the numbers, which have room.
+fn told<const N: usize>(answer: u32, first: [u64; N], numbers_len: usize, bytes: Vec<u8>) -> Left {
     let mut left = untouched(answer, numbers_len, 0);
-    left.numbers[..4].copy_from_slice(&four);
+    left.numbers[..N].copy_from_slice(&first);
     left.bytes = bytes;
     left
 }
@@ -168,4 +169,30 @@ pub fn doorman(table: &[u8], bytes: &[u8], numbers_len: usize) -> Left {
         Admission::NotAdmitted { number } => (u32::from(number), [0; 4]),
     };
     told(answer, four, numbers_len, Vec::new())
+}
+
+pub fn read_ssl(value: &[u8], numbers_len: usize) -> Left {
+    if numbers_len < SSL_NUMBERS {
+        return untouched(NO_ROOM, numbers_len, 0);
+    }
+    let (answer, twelve) = match second::read_ssl(value) {
+        Ok(ssl) => (0, ssl_numbers(ssl)),
+        Err(number) => (u32::from(number), [0; SSL_NUMBERS]),
+    };
+    told(answer, twelve, numbers_len, Vec::new())
+}
+
+/// Client and verify, then the start and the length of each piece, which are 0 and 0 where it is absent.
+fn ssl_numbers(ssl: Ssl) -> [u64; SSL_NUMBERS] {
+    let mut twelve = [0; SSL_NUMBERS];
+    (twelve[0], twelve[1]) = (u64::from(ssl.client), u64::from(ssl.verify));
+    for (two, piece) in twelve[2..].chunks_mut(2).zip(ssl.pieces) {
+        let piece = piece.unwrap_or_default();
+        two.copy_from_slice(&[piece.start as u64, piece.len() as u64]);
+    }
+    twelve
+}
+
+pub fn write_ssl(given: &Given, room: usize, numbers_len: usize) -> Left {
+    written(room, numbers_len, |out| second::write_ssl(given.client, given.verify, given.there(), out).map_err(u32::from))
 }

@@ -2,6 +2,7 @@
 //! other what it must leave, `interface` compares the two on inputs made in `inputs` and `headers`, and `whole` on every prefix of whole headers.
 //! The checksum (document 02, K6) has its inputs in `checksum_headers`, and is compared in `crc32c`, `checked_reading` and `checked_writing`; stored forms
 //! (K7) are compared in `stored`. The profile of diagnostics (K14) has its inputs in `prefix_tables` and `admission_headers`, and is compared in `admission`.
+//! What a TLS front end says in TLV 0x20 (K2) has its inputs in `ssl_values`, and is compared in `ssl_reading` and `ssl_writing`, as `ssl` says.
 //! The library is held to the rules of joined TLV areas (K13) in `joining`, and to what others write for an IPv6 address (K3) in `ip6_text`.
 pub mod admission;
 pub mod admission_headers;
@@ -21,6 +22,10 @@ pub mod outcome;
 pub mod prefix_tables;
 pub mod random;
 pub mod records;
+pub mod ssl;
+pub mod ssl_reading;
+pub mod ssl_values;
+pub mod ssl_writing;
 pub mod stored;
 pub mod whole;
 
@@ -60,6 +65,9 @@ pub const NUMBER: u64 = 0xA5A5_A5A5_A5A5_A5A5;
 /// Lengths of lent buffers with room to spare.
 pub const NUMBERS: usize = 6;
 pub const CONNECTION: usize = connection::SIZE + 3;
+
+/// How many numbers tell what the value of TLV 0x20 says.
+pub const SSL_NUMBERS: usize = 12;
 
 pub const STORED_VERSIONS: [StoredVersion; 2] = [StoredVersion::One, StoredVersion::Two];
 

@@ -1,5 +1,6 @@
 //! The proved library through its C interface (include/dawnhawse.h), with canaries on both sides of each buffer that it may write, of the connections and
-//! forms that are stored, loaded and moved, and of a table of prefixes and the bytes that it is used on.
+//! forms that are stored, loaded and moved, of a table of prefixes and the bytes that it is used on, and of the value of TLV 0x20 and its pieces.
+use crate::ssl_values::Given;
 use crate::{hex, Left, BYTE, NUMBER};
 use second::StoredVersion;
 
@@ -22,6 +23,13 @@ extern "C" {
     fn dawnhawse_back(stored: *const u8, stored_len: usize, out: *mut u8, out_len: usize, numbers: *mut u64, numbers_len: usize) -> u32;
     fn dawnhawse_crc32c(bytes: *const u8, bytes_len: usize) -> u32;
     fn dawnhawse_doorman(table: *const u8, table_len: usize, bytes: *const u8, bytes_len: usize, numbers: *mut u64, numbers_len: usize) -> u32;
+    fn dawnhawse_read_ssl(value: *const u8, value_len: usize, numbers: *mut u64, numbers_len: usize) -> u32;
+    #[rustfmt::skip]
+    fn dawnhawse_write_ssl(
+        client: u8, verify: u32, present: u8, version: *const u8, version_len: usize, common_name: *const u8, common_name_len: usize, cipher: *const u8,
+        cipher_len: usize, signature: *const u8, signature_len: usize, key: *const u8, key_len: usize, out: *mut u8, out_len: usize, numbers: *mut u64,
+        numbers_len: usize,
+    ) -> u32;
 }
 
 /// How many canaries stand on either side.
@@ -53,6 +61,20 @@ impl<T: Copy + PartialEq> Lent<T> {
     }
 }
 
+impl Lent<u8> {
+    /// Bytes to be read, between canaries.
+    fn holding(bytes: &[u8]) -> Self {
+        let mut lent = Lent::new(BYTE, bytes.len());
+        lent.all[EDGE..][..bytes.len()].copy_from_slice(bytes);
+        lent
+    }
+
+    /// They must be as they were.
+    fn unchanged(self, input: &[u8]) {
+        assert!(self.left(input) == input, "{}: bytes lent to be read were written", hex(input));
+    }
+}
+
 /// Lends numbers and bytes of these lengths to a call on this input.
 fn lend(input: &[u8], numbers_len: usize, bytes_len: usize, call: impl FnOnce(*mut u64, *mut u8) -> u32) -> Left {
     let mut numbers = Lent::new(NUMBER, numbers_len);
@@ -63,10 +85,9 @@ fn lend(input: &[u8], numbers_len: usize, bytes_len: usize, call: impl FnOnce(*m
 
 /// Lends the input to a call, which must leave it as it was.
 fn lend_input(input: &[u8], call: impl FnOnce(*const u8) -> Left) -> Left {
-    let mut lent = Lent::new(BYTE, input.len());
-    lent.all[EDGE..][..input.len()].copy_from_slice(input);
+    let mut lent = Lent::holding(input);
     let left = call(lent.pointer());
-    assert!(lent.left(input) == input, "{}: bytes lent to be read were written", hex(input));
+    lent.unchanged(input);
     left
 }
 
@@ -155,4 +176,26 @@ pub fn doorman(table: &[u8], bytes: &[u8], numbers_len: usize) -> Left {
             lend(&input, numbers_len, 0, |numbers, _| unsafe { dawnhawse_doorman(rows, table.len(), lent, bytes.len(), numbers, numbers_len) })
         })
     })
+}
+
+pub fn read_ssl(value: &[u8], numbers_len: usize) -> Left {
+    lend_all(value, numbers_len, 0, |lent, numbers, _| unsafe { dawnhawse_read_ssl(lent, value.len(), numbers, numbers_len) })
+}
+
+/// Each piece is lent, those too that are not there. A written canary is told with client, verify and present, and the pieces behind them.
+pub fn write_ssl(given: &Given, room: usize, numbers_len: usize) -> Left {
+    let Given { client, verify, present, pieces } = *given;
+    let mut lent = pieces.map(|piece| piece.map(Lent::holding));
+    let [a, b, c, d, e] = lent.each_mut().map(|piece| piece.as_mut().map_or(std::ptr::null(), |piece| piece.pointer().cast_const()));
+    let [a_len, b_len, c_len, d_len, e_len] = pieces.map(|piece| piece.map_or(0, <[u8]>::len));
+    let input = [&[client][..], &verify.to_be_bytes(), &[present], &pieces.map(Option::unwrap_or_default).concat()].concat();
+    let left = lend(&input, numbers_len, room, |numbers, out| unsafe {
+        dawnhawse_write_ssl(client, verify, present, a, a_len, b, b_len, c, c_len, d, d_len, e, e_len, out, room, numbers, numbers_len)
+    });
+    for (lent, piece) in lent.into_iter().zip(pieces) {
+        if let (Some(lent), Some(piece)) = (lent, piece) {
+            lent.unchanged(piece);
+        }
+    }
+    left
 }

@@ -4,7 +4,7 @@ mod programs;
 
 use compare::inputs::{self, Group};
 use compare::random::Random;
-use compare::{admission, checked_reading, checked_writing, crc32c, hex, interface, ip6_text, joining, stored, whole};
+use compare::{admission, checked_reading, checked_writing, crc32c, hex, interface, ip6_text, joining, ssl_reading, ssl_writing, stored, whole};
 use std::path::{Path, PathBuf};
 
 const SEED: u64 = 0x0D0A_0D0A_000D_0A51;
@@ -65,6 +65,21 @@ fn main() {
         admission::prefixes(),
         admission::rooms(),
         admission::generated(&mut random, GENERATED / 8),
+        ssl_reading::prefixes(),
+        ssl_reading::changes(),
+        ssl_reading::lists(),
+        ssl_reading::heads(),
+        ssl_reading::lengths(),
+        ssl_reading::long(),
+        ssl_reading::rooms(),
+        ssl_reading::generated(&mut random, GENERATED * 5),
+        ssl_writing::choices(),
+        ssl_writing::heads(),
+        ssl_writing::lengths(),
+        ssl_writing::rooms(),
+        ssl_writing::borders(),
+        ssl_writing::long(),
+        ssl_writing::generated(&mut random, GENERATED / 40),
     ] {
         compared += outcome.compared;
         println!("compare: {} {}: {}", outcome.compared, outcome.name, outcome.difference.as_deref().unwrap_or("the same"));

@@ -1,7 +1,8 @@
 //! A libFuzzer target: the C library and the second program on the same input, the library's answers to joined areas, and IPv6 text beside inet_ntop's. A
 //! difference ends the run.
 use compare::connection::SIZE;
-use compare::{checksum_headers, expected, hex, ip6_text, joining, library, same, STORED_VERSIONS};
+use compare::outcome::Outcome;
+use compare::{checksum_headers, expected, hex, ip6_text, joining, library, same, ssl, ssl_values, STORED_VERSIONS};
 
 /// # Safety
 /// As libFuzzer calls it: size bytes are lent behind data.
@@ -53,9 +54,19 @@ fn compare(input: &[u8]) -> Result<(), String> {
         // The limit is what is otherwise the choice of how many numbers are lent.
         17 => return joining::lookup_rule(first, second, *high, usize::from(choice >> 5)),
         18 => return ip6_text::as_inet_ntop(&address(input), &address(second)).map(drop),
+        // Twelve numbers are needed.
+        19 => return found(|outcome| ssl::reads(outcome, input, numbers + 8)),
+        20 => return found(|outcome| ssl_values::cut(input).map(|given| ssl::writes(outcome, &given, number, numbers))),
         _ => (library::doorman(table, bytes, numbers), expected::doorman(table, bytes, numbers)),
     };
     same(&here, &there, || format!("function {}, {number}, {numbers} numbers, {}", choice & 31, hex(input)))
+}
+
+/// The difference that a comparison has found.
+fn found<T>(compare: impl FnOnce(&mut Outcome) -> T) -> Result<(), String> {
+    let mut outcome = Outcome::new("");
+    compare(&mut outcome);
+    outcome.difference.map_or(Ok(()), Err)
 }
 
 /// The first sixteen bytes; zeros where there are fewer.

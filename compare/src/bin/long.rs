@@ -1,7 +1,7 @@
 //! The long run: the C library against the second program until so many inputs are compared. A round's seed is printed with a difference.
 //! Usage: long HOW-MANY [FIRST-SEED]
 use compare::random::Random;
-use compare::{admission, checked_reading, checked_writing, crc32c, headers, inputs, interface, ip6_text, joining, stored, whole};
+use compare::{admission, checked_reading, checked_writing, crc32c, headers, inputs, interface, ip6_text, joining, ssl_reading, ssl_writing, stored, whole};
 use std::time::{Duration, Instant};
 
 /// Headers read, and areas and records made, in a round.
@@ -56,6 +56,8 @@ fn round(short: &[Vec<u8>], seed: u64) -> Vec<(usize, Option<String>)> {
         checked_reading::generated(&mut random, READ),
         checked_writing::generated(&mut random, MADE),
         admission::generated(&mut random, READ / 4),
+        ssl_reading::generated(&mut random, READ),
+        ssl_writing::generated(&mut random, MADE),
     ]
     .map(|outcome| (outcome.compared, outcome.difference))
     .into()
