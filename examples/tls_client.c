@@ -18,13 +18,16 @@ static const uint8_t received[] = {
     'p', 'a', 'y', 'l', 'o', 'a', 'd',
 };
 
-/* A piece is absent, or so many bytes of the value; an empty one is there. */
+/* A piece is absent, or so many bytes of the value, whatever these are; an empty one is there. */
 static void print_piece(const char *name, const uint8_t *value, const uint64_t *piece)
 {
-    if (piece[0] == 0)
+    if (piece[0] == 0) {
         printf("%s: absent\n", name);
-    else
-        printf("%s: \"%.*s\"\n", name, (int)piece[1], (const char *)value + piece[0]);
+        return;
+    }
+    printf("%s: \"", name);
+    fwrite(value + piece[0], 1, piece[1], stdout);
+    puts("\"");
 }
 
 static void print_value(const uint8_t *value, size_t length)
@@ -32,8 +35,8 @@ static void print_value(const uint8_t *value, size_t length)
     uint64_t said[DAWNHAWSE_SSL_NUMBERS];
     uint32_t answer = dawnhawse_read_ssl(value, length, said, DAWNHAWSE_SSL_NUMBERS);
 
-    printf("value of %d bytes: %s, client %d, verify %d\n", (int)length, dawnhawse_answer_name(answer),
-           (int)said[DAWNHAWSE_SSL_CLIENT], (int)said[DAWNHAWSE_SSL_VERIFY]);
+    printf("value of %d bytes: %s, client %d, verify %lu\n", (int)length, dawnhawse_answer_name(answer), (int)said[DAWNHAWSE_SSL_CLIENT],
+           (unsigned long)said[DAWNHAWSE_SSL_VERIFY]);
     print_piece("version", value, said + DAWNHAWSE_SSL_VERSION);
     print_piece("common name", value, said + DAWNHAWSE_SSL_COMMON_NAME);
     print_piece("cipher", value, said + DAWNHAWSE_SSL_CIPHER);

@@ -60,10 +60,10 @@ extern "C" {
 /* The bytes begin with a whole header. */
 #define DAWNHAWSE_ACCEPTED 0
 
-/* A TLV is found or shown. */
+/* A TLV is found or shown, or the value of TLV 0x20 is read. */
 #define DAWNHAWSE_FOUND 0
 
-/* A header or a stored form is written. */
+/* A header, a stored form or the value of TLV 0x20 is written. */
 #define DAWNHAWSE_WRITTEN 0
 
 /* A stored form is whole, and its connection is told. */
@@ -366,7 +366,8 @@ uint32_t dawnhawse_lookup(const uint8_t *area, size_t area_len, uint8_t wanted, 
  * piece is there; an absent one is not.
  *
  * It is what the front end said. Whoever can send a header can say anything in it, so take headers from the front end only, and let
- * nothing rest on a common name without DAWNHAWSE_SSL_CLIENT_CONNECTION or DAWNHAWSE_SSL_CLIENT_SESSION and a verify number of 0.
+ * nothing rest on a common name unless verify is 0 and DAWNHAWSE_SSL_CLIENT_CONNECTION or DAWNHAWSE_SSL_CLIENT_SESSION is set. A piece may
+ * hold any bytes, zeros among them: go by its length.
  *
  *   value, value_len       the value of TLV 0x20; not altered
  *   numbers, numbers_len   at least DAWNHAWSE_SSL_NUMBERS elements; those past the twelfth stay as they were
@@ -383,7 +384,7 @@ uint32_t dawnhawse_read_ssl(const uint8_t *value, size_t value_len, uint64_t *nu
 /*
  * Writes the value of TLV 0x20 to the front of the output: client, verify, and the pieces that are there, in order of type.
  * dawnhawse_read_ssl gives the same client, verify and pieces of it, present and absent alike. To stand in a header, the value needs
- * the three bytes of a TLV in front of it: 20 and its length, high byte first.
+ * the three bytes of a TLV in front of it: DAWNHAWSE_SSL and its length, high byte first.
  *
  *   client, verify                   the client byte, of which any bits may be set, and the verify number
  *   present                          which pieces are there, DAWNHAWSE_SSL_HAS_..; the three bits above them are ignored
@@ -398,7 +399,7 @@ uint32_t dawnhawse_read_ssl(const uint8_t *value, size_t value_len, uint64_t *nu
  *
  * Answers, the first that applies; a refusal leaves both buffers as they were
  *   DAWNHAWSE_NO_SSL_VERSION   bit 0x01 of the client byte is set, and the version is not there
- *   DAWNHAWSE_TOO_LARGE        a piece or the value, 5 bytes and 3 more for each piece, has more than 65535 bytes
+ *   DAWNHAWSE_TOO_LARGE        a piece has more than 65535 bytes, or the value: 5 bytes, and for each piece 3 and its own
  *   DAWNHAWSE_NO_ROOM          the output is shorter than the value, or numbers has fewer than 4 elements
  *   DAWNHAWSE_WRITTEN          the value is written; numbers: its length, 0, 0, 0
  */

@@ -49,7 +49,7 @@ module _ (type : ℕ) where
         ap₂ (λ (i : ℕ) (l : List Tlv). length (written (take i l)) + 3) (f .index) (f .split)
         ∙ ap (λ (l : List Tlv). length (written l) + 3) (take-at (f .front) (f .tlv ∷ f .rest) (length (f .front)) refl)
 
-    pub first-size : lengthOf (firstOf type tlvs) tlvs ≡ length (f .tlv .value)
+    first-size : lengthOf (firstOf type tlvs) tlvs ≡ length (f .tlv .value)
     first-size =
         let n : length (f .front) ≡ length (f .front) + 0 = omega arith in
         ap₂ lengthOf (f .index ∙ n) (f .split) ∙ length-second 0 (f .front) (f .tlv ∷ f .rest)

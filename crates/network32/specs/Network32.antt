@@ -1,9 +1,9 @@
 -- A 32-bit number in network order.
-use mathlib.Core.Path.{_≡_}
+use mathlib.Core.Path.{_≡_, ap₂, _∙_}
 use mathlib.Core.List.{List, [], _∷_}
 use Prim.Native.Nat.{ℕ, _+_, _*_, _/_, _%_, _^_, _<_}
 use native.Mathlib.Omega.{arith}
-use Rattle.exact.specs.Network.{numberAt}
+use Rattle.exact.specs.Network.{number, numberAt}
 
 -- "in network order": high byte first
 abbrev pub network32 : ℕ → List ℕ
@@ -17,7 +17,8 @@ number32At s i = numberAt s i * 2 ^ 16 + numberAt s (i + 2)
 pub number-network : (n : ℕ) → n < 2 ^ 32 → number32At (network32 n) 0 ≡ n
 number-network n h =
     let first : n / 2 ^ 24 ≡ n / 2 ^ 16 / 256 = omega arith in
-    let high : n / 2 ^ 24 % 256 * 256 + n / 2 ^ 16 % 256 ≡ n / 2 ^ 16 = omega arith in
+    let high : number (n / 2 ^ 24 % 256) (n / 2 ^ 16 % 256) ≡ n / 2 ^ 16 = omega arith in
     let third : n / 2 ^ 8 % 256 ≡ n % 2 ^ 16 / 256 = omega arith in
-    let low : n / 2 ^ 8 % 256 * 256 + n % 256 ≡ n % 2 ^ 16 = omega arith in
-    omega arith
+    let low : number (n / 2 ^ 8 % 256) (n % 256) ≡ n % 2 ^ 16 = omega arith in
+    let all : n / 2 ^ 16 * 2 ^ 16 + n % 2 ^ 16 ≡ n = omega arith in
+    ap₂ (λ (x y : ℕ). x * 2 ^ 16 + y) high low ∙ all

@@ -10,7 +10,7 @@ use Rattle.exact.specs.Pick.{pick}
 use Rattle.lent.specs.Buffers.{toldIn}
 use Rattle.numbers.specs.Numbers.{roomBeside}
 use Rattle.ssl_reader.specs.Ssl.{Outcome, accepted, refused, Part, Said}
-use Rattle.ssl_reader.specs.Told.{startOf, sizeOf}
+use Rattle.ssl_reader.specs.Told.{partStart, partSize}
 use Rattle.ssl_writer.specs.declared.Present.{Present}
 use Rattle.ssl_writer.specs.Written.{Piece, sslValue, sslAnswer}
 use Rattle.write_interface.specs.WriteInterface.{Writes}
@@ -24,7 +24,7 @@ outcomeNumber (refused number) = number
 -- where each piece starts in the value, and its length; an absent one has 0 and 0
 abbrev pub partNumbers : List (Option Part) → List ℕ
 partNumbers [] = []
-partNumbers (p ∷ rest) = startOf p ∷ sizeOf p ∷ partNumbers rest
+partNumbers (p ∷ rest) = partStart p ∷ partSize p ∷ partNumbers rest
 
 -- client, verify, and the five pieces; so a refusal tells twelve zeros
 abbrev pub saidNumbers : Said → List ℕ

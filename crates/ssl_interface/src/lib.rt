@@ -10,7 +10,7 @@ use ssl_writer::Present;
 use ssl_writer::write_ssl;
 ghost use mathlib.Core.Path.{_≡_};
 ghost use Rattle.ssl_reader.specs.Ssl.{saidIn};
-ghost use Rattle.ssl_reader.specs.Told.{toldPart, startOf, sizeOf, toldOutcome, toldSsl};
+ghost use Rattle.ssl_reader.specs.Told.{toldPart, partStart, partSize, toldOutcome, toldSsl};
 ghost use Rattle.ssl_writer.specs.Written.{piecesOf};
 ghost use Rattle.ssl_interface.specs.SslInterface.{outcomeNumber, saidNumbers, SslTold, presentOf, WritesSsl};
 
@@ -19,7 +19,7 @@ const SSL_NUMBERS: usize = 12;
 
 // Where a piece starts; 0, if it is absent.
 fn piece_start(piece: Piece) -> usize
-    ensures { λ r. ⌜ r ≡ startOf (toldPart piece) ⌝ }
+    ensures { λ r. ⌜ r ≡ partStart (toldPart piece) ⌝ }
 {
     match piece {
         Piece::Absent => 0,
@@ -29,7 +29,7 @@ fn piece_start(piece: Piece) -> usize
 
 // How long a piece is; 0, if it is absent.
 fn piece_length(piece: Piece) -> usize
-    ensures { λ r. ⌜ r ≡ sizeOf (toldPart piece) ⌝ }
+    ensures { λ r. ⌜ r ≡ partSize (toldPart piece) ⌝ }
 {
     match piece {
         Piece::Absent => 0,

@@ -65,7 +65,7 @@ module _ (subs : List Tlv) (t : Tlv) (type : ℕ) where
       let first : firstOf type all ≡ length subs + 1 = first-joined type subs (t ∷ []) ∙ rw (e, f) in
       ap at first ∙ rw (le-ltb (length subs + 1) (length all) (omega arith), e)
 
-  pub part-noted : partOf type all ≡ pick (eqb (t .type) type) (orPart (partOf type subs) (partBehind subs t)) (partOf type subs)
+  part-noted : partOf type all ≡ pick (eqb (t .type) type) (orPart (partOf type subs) (partBehind subs t)) (partOf type subs)
   part-noted = part-by (ltb i (length subs)) (eqb (t .type) type) refl refl
 
 pub parts-noted : (n type : ℕ) (subs : List Tlv) (t : Tlv)

@@ -33,20 +33,20 @@ toldSsl r =
     }
 
 -- where a part starts, and its length; an absent one is taken as the empty part at 0
-abbrev pub startOf : Option Part → ℕ
-startOf none = 0
-startOf (some p) = p .start
+abbrev pub partStart : Option Part → ℕ
+partStart none = 0
+partStart (some p) = p .start
 
-abbrev pub sizeOf : Option Part → ℕ
-sizeOf none = 0
-sizeOf (some p) = p .size
+abbrev pub partSize : Option Part → ℕ
+partSize none = 0
+partSize (some p) = p .size
 
 abbrev pub bytesOf : (value : List ℕ) → Option Part → List ℕ
-bytesOf value p = take (sizeOf p) (drop (startOf p) value)
+bytesOf value p = take (partSize p) (drop (partStart p) value)
 
 -- "as a part of the lent bytes": it starts so far into the value's memory, though not beyond its end, and has those bytes
 abbrev pub PartOf : RefT (List ℕ) → Option Part → RefT (List ℕ) → Type 0
 PartOf value p part =
     (part .ptr .0 ≡ value .ptr .0)
-    × (part .ptr .1 ≡ value .ptr .1 + min (startOf p) (length (now value)))
+    × (part .ptr .1 ≡ value .ptr .1 + min (partStart p) (length (now value)))
     × (now part ≡ bytesOf (now value) p)

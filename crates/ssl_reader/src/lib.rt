@@ -103,7 +103,8 @@ pub fn lacks_version(client: u8, absent: bool) -> bool
     client % 2 == 1 && absent
 }
 
-// Reads the value of TLV 0x20.
+// Reads the value of TLV 0x20, in one pass over its sub-TLVs: ill-formed where it has under five bytes or these do not fill it, and then without a version
+// where bit 0x01 of the client asks for one.
 pub fn read_ssl(value: &[u8]) -> Ssl
     ensures { λ r. ⌜ toldSsl r ≡ saidIn (now (value .entry)) ⌝ }
 {

@@ -42,7 +42,7 @@ value-from text type (p ∷ rest) =
     ∙ ap (λ (l : List ℕ). text ++ l) (sym (one-more type p rest))
 
 -- ── lengths ──
-pub piece-size : (type : ℕ) (there : Bool) (bytes : List ℕ) → length (pieceBytes type (pieceIf there bytes)) ≡ sizeIf there (length bytes)
+piece-size : (type : ℕ) (there : Bool) (bytes : List ℕ) → length (pieceBytes type (pieceIf there bytes)) ≡ sizeIf there (length bytes)
 piece-size type true bytes = omega arith
 piece-size type false bytes = refl
 

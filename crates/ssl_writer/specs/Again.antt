@@ -1,12 +1,13 @@
 -- "every value that reads without refusal, repeats or other types, written again, reads the same"; it is then as long as it was. With repeats or other
 -- types it reads the same too, and is no longer.
 use mathlib.Core.Path.{_≡_, refl, sym, ap, _∙_, subst}
-use mathlib.Core.Bool.{Bool, true, false}
+use mathlib.Core.Bool.{Bool, true, false, not}
 use mathlib.Core.List.{List, [], _∷_}
 use mathlib.Core.Option.{Option, some, none}
 use Prim.Native.Nat.{ℕ, zero, suc, _+_, _^_, _≤_, _<_}
 use native.Mathlib.Omega.{arith}
 use borrow.Author.Tests.{eqb-true, eqb-false, ltb-true, ltb-false, leb-true, leb-false, lt-ltb, le-ltb, le-leb, ne-eqb}
+use denote.Ref.{RefT, now}
 use lib.Arith.{lt-of-le-ne}
 use lib.Dec.{eqb, ltb, leb, leb·suc-suc}
 use lib.ListN.{length, take, drop, length-append, length-drop}
@@ -19,8 +20,11 @@ use Rattle.tlv.specs.Listed.{tlvs-of}
 use Rattle.lookup.specs.Lookup.{firstOf, startOf, lengthOf}
 use Rattle.answer.specs.Answers.{wrote}
 use Rattle.ssl_reader.specs.Ssl.{Part, partOf, partsFrom, partsOf, subsOf, isAbsent, lacksVersion, accepted, Said, saidIn, clientOf, verifyOf, pieceIn, piecesIn}
+use Rattle.ssl_reader.specs.declared.Ssl.{Ssl}
+use Rattle.ssl_reader.specs.Told.{toldPart, toldSsl, PartOf}
 use Rattle.ssl_reader.specs.Laws.{Lies, part-lies, Reads, accepted-reads}
-use Rattle.ssl_writer.specs.Written.{Piece, subsFor, sslValue, sslAnswer}
+use Rattle.ssl_writer.specs.declared.Present.{Present}
+use Rattle.ssl_writer.specs.Written.{Piece, pieceIf, piecesOf, subsFor, sslValue, sslAnswer}
 use Rattle.ssl_writer.specs.Writes.{ReadsAs}
 use Rattle.ssl_writer.specs.ReadBack.{OfBytes, absent-same, reads-back}
 
@@ -199,3 +203,33 @@ written-again value bytes short ok = let r = accepted-reads value ok in subst (A
 pub same-bytes : (client verify : ℕ) (pieces : List Piece) → ReadsAs (sslValue client verify pieces) client verify pieces
     → textOf (sslValue client verify pieces) (saidIn (sslValue client verify pieces)) ≡ sslValue client verify pieces
 same-bytes client verify pieces r = λ k. sslValue (r .client-same k) (r .verify-same k) (r .pieces-same k)
+
+-- ── of calls ──
+-- a piece that `read_ssl` tells, with the part that `piece_of` lends and whether `is_absent` says so, is the piece of the value
+given-again : (value part : RefT (List ℕ)) (p : Option Part) → PartOf value p part → pieceIf (not (isAbsent p)) (now part) ≡ pieceIn (now value) p
+given-again value part none is = refl
+given-again value part (some p) is = ap some (is .2)
+
+abbrev pub presentIn : Ssl → Present
+presentIn r =
+    record {
+      version = not (isAbsent (toldPart (r .version)));
+      «common_name» = not (isAbsent (toldPart (r .«common_name»)));
+      cipher = not (isAbsent (toldPart (r .cipher)));
+      signature = not (isAbsent (toldPart (r .signature)));
+      key = not (isAbsent (toldPart (r .key)));
+    }
+
+-- so what these hand to `write_ssl` are the pieces that are written again
+pub calls-again : (value a b c d e : RefT (List ℕ)) (r : Ssl) → toldSsl r ≡ saidIn (now value) → PartOf value (toldPart (r .version)) a
+    → PartOf value (toldPart (r .«common_name»)) b → PartOf value (toldPart (r .cipher)) c → PartOf value (toldPart (r .signature)) d
+    → PartOf value (toldPart (r .key)) e → piecesOf (presentIn r) (now a) (now b) (now c) (now d) (now e) ≡ piecesIn (now value) (saidIn (now value) .parts)
+calls-again value a b c d e r told v n x s k =
+    (λ i.
+    given-again value a (toldPart (r .version)) v i
+    ∷ given-again value b (toldPart (r .«common_name»)) n i
+    ∷ given-again value c (toldPart (r .cipher)) x i
+    ∷ given-again value d (toldPart (r .signature)) s i
+    ∷ given-again value e (toldPart (r .key)) k i
+    ∷ [])
+    ∙ ap (λ (t : Said). piecesIn (now value) (t .parts)) told

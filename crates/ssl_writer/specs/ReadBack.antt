@@ -11,7 +11,7 @@ use lib.ListN.{length, getD, take, drop, length-append}
 use lib.Seq.{drop-drop}
 use Rattle.exact.specs.Claim.{AllBytes}
 use Rattle.exact.specs.Pick.{pick-by}
-use Rattle.network32.specs.Network32.{number-network}
+use Rattle.network32.specs.Network32.{network32, number-network}
 use Rattle.tlv.specs.Tlv.{Tlv, written, Proper, Area}
 use Rattle.lookup.specs.Lookup.{firstOf}
 use Rattle.lookup.specs.JoinedLists.{first-joined, start-second, length-second}
@@ -106,6 +106,15 @@ proper type (some bytes ∷ rest) h b n =
 pub absent-same : (value : List ℕ) (p : Option Part) → isAbsent p ≡ isAbsent (pieceIn value p)
 absent-same value none = refl
 absent-same value (some p) = refl
+
+-- a value is longer than each of its pieces
+pub piece-within : (client verify type : ℕ) (front : List Piece) (bytes : List ℕ) (rest : List Piece)
+    → length bytes < length (client ∷ network32 verify ++ written (subsFor type (front ++ some bytes ∷ rest)))
+piece-within client verify type [] bytes rest = let n = length-append bytes (written (subsFor (suc type) rest)) in omega arith
+piece-within client verify type (none ∷ front) bytes rest = piece-within client verify (suc type) front bytes rest
+piece-within client verify type (some other ∷ front) bytes rest =
+    let n = length-append other (written (subsFor (suc type) (front ++ some bytes ∷ rest))) in
+    let h = piece-within client verify (suc type) front bytes rest in omega arith
 
 -- ── the theorem ──
 module _ (client verify : ℕ) (a b c d e : Piece) where
