@@ -399,7 +399,7 @@ uint32_t dawnhawse_read_ssl(const uint8_t *value, size_t value_len, uint64_t *nu
  *
  * Answers, the first that applies; a refusal leaves both buffers as they were
  *   DAWNHAWSE_NO_SSL_VERSION   bit 0x01 of the client byte is set, and the version is not there
- *   DAWNHAWSE_TOO_LARGE        a piece has more than 65535 bytes, or the value: 5 bytes, and for each piece 3 and its own
+ *   DAWNHAWSE_TOO_LARGE        a piece that is there, or the value, 5 bytes and for each such piece 3 and its own, has over 65535 bytes
  *   DAWNHAWSE_NO_ROOM          the output is shorter than the value, or numbers has fewer than 4 elements
  *   DAWNHAWSE_WRITTEN          the value is written; numbers: its length, 0, 0, 0
  */

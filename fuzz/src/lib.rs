@@ -54,8 +54,8 @@ fn compare(input: &[u8]) -> Result<(), String> {
         // The limit is what is otherwise the choice of how many numbers are lent.
         17 => return joining::lookup_rule(first, second, *high, usize::from(choice >> 5)),
         18 => return ip6_text::as_inet_ntop(&address(input), &address(second)).map(drop),
-        // Twelve numbers are needed.
-        19 => return found(|outcome| ssl::reads(outcome, input, numbers + 8)),
+        // Twelve numbers are needed: they are lent, or some fewer.
+        19 => return found(|outcome| ssl::reads(outcome, input, numbers + 6)),
         20 => return found(|outcome| ssl_values::cut(input).map(|given| ssl::writes(outcome, &given, number, numbers))),
         _ => (library::doorman(table, bytes, numbers), expected::doorman(table, bytes, numbers)),
     };

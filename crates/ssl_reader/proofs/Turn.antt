@@ -1,4 +1,4 @@
--- A turn of the reader's loop: what is known of the value and the pieces where some sub-TLVs are passed.
+-- A turn of the reader's loop: what is known of the value and the numbers found where some sub-TLVs are passed.
 use mathlib.Core.Path.{_≡_, refl, sym, ap, ap₂, _∙_, subst}
 use mathlib.Core.Bool.{Bool, true, false}
 use mathlib.Core.List.{List, [], _∷_, _++_, append-nil, append-assoc}
@@ -27,14 +27,14 @@ pub record Passed (value found : List ℕ) (at : ℕ) : Type 0 where
   subs : List Tlv
   area : Area front subs
   split : drop 5 value ≡ front ++ drop at value
-  place-is : 5 + length front ≡ at
+  reached : 5 + length front ≡ at
   parts : foundParts found ≡ partsOf subs
   pub ten : length found ≡ 10
   pub within : at ≤ length value
 
 module _ (value : List ℕ) where
   pub passed-none : 5 ≤ length value → Passed value (replicate 10 0) 5
-  passed-none h = record { front = []; subs = []; area = (refl, tt); split = refl; place-is = refl; parts = refl; ten = refl; within = h }
+  passed-none h = record { front = []; subs = []; area = (refl, tt); split = refl; reached = refl; parts = refl; ten = refl; within = h }
 
   module _ (found : List ℕ) (at : ℕ) (p : Passed value found at) where
     -- what stands at the place
@@ -63,7 +63,7 @@ module _ (value : List ℕ) where
         let behind = drop (at + 3 + sizeAt value at) value in
         let size = tlv-size value at bytes room in
         let n = length-append (p .front) (tlvBytes (t .type) (t .value)) in
-        let start : at + 3 ≡ 5 + (length (written (p .subs)) + 3) = let w = ap length (p .area .0) in omega (arith, p .place-is) in
+        let start : at + 3 ≡ 5 + (length (written (p .subs)) + 3) = let w = ap length (p .area .0) in omega (arith, p .reached) in
         record {
           front = p .front ++ tlvBytes (t .type) (t .value);
           subs = p .subs ++ t ∷ [];
@@ -72,7 +72,7 @@ module _ (value : List ℕ) where
               p .split
               ∙ ap (λ (l : List ℕ). p .front ++ l) (tlv-split value at bytes room)
               ∙ sym (append-assoc (p .front) (tlvBytes (t .type) (t .value)) behind);
-          place-is = omega (arith, p .place-is);
+          reached = omega (arith, p .reached);
           ten = ten;
           parts =
               e
@@ -115,7 +115,7 @@ module _ (value : List ℕ) where
           subst (λ (l : List ℕ). Area l (p .subs)) (sym (p .split ∙ ap (λ (l : List ℕ). p .front ++ l) rest ∙ append-nil (p .front))) (p .area)
 
       said : saidIn value ≡ saidBy (clientOf value) (verifyOf value) (p .subs)
-      said = said-listed value (omega (arith, p .place-is, p .within)) (p .subs) whole
+      said = said-listed value (omega (arith, p .reached, p .within)) (p .subs) whole
 
       piece : (i : ℕ) → suc (place i) < 10 → foundPart (getD found (place i) 0) (getD found (suc (place i)) 0) ≡ getD (partsOf (p .subs)) i none
       piece i h = found-at i found (omega (arith, p .ten)) ∙ ap (λ (l : List (Option Part)). getD l i none) (p .parts)

@@ -37,7 +37,8 @@ pub struct Ssl {
     pub key: Piece,
 }
 
-// Notes a sub-TLV in ten numbers, a start and a length for each type: the first of its type is the piece; other types and repeated ones are passed over.
+// Notes a sub-TLV in ten numbers, for each type the start and the length of its piece, 0 and 0 where none is noted yet: the first of its type is the piece;
+// other types and repeated ones are passed over.
 fn note(found: &mut [usize], tlv_type: u8, start: usize, size: usize)
     requires { ⌜ (length (now found) ≡ 10) × (0 < start) ⌝ }
     ensures { λ _. ⌜ (length (now (found .exit)) ≡ 10) × (foundParts (now (found .exit)) ≡ noted «tlv_type» (record { start = start; size = size }) 0x21 (foundParts (now (found .entry)))) ⌝ }
@@ -56,7 +57,7 @@ fn note(found: &mut [usize], tlv_type: u8, start: usize, size: usize)
     found[i + 1] = size;
 }
 
-// A piece by where it starts: none does at 0.
+// The piece with this start and length; absent where the start is 0, since no piece starts there.
 fn piece_at(start: usize, length: usize) -> Piece
     ensures { λ r. ⌜ toldPart r ≡ foundPart start length ⌝ }
 {

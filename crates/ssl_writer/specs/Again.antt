@@ -220,16 +220,18 @@ presentIn r =
       key = not (isAbsent (toldPart (r .key)));
     }
 
--- so what these hand to `write_ssl` are the pieces that are written again
+-- so what these hand to `write_ssl` is written as the value again
 pub calls-again : (value a b c d e : RefT (List ℕ)) (r : Ssl) → toldSsl r ≡ saidIn (now value) → PartOf value (toldPart (r .version)) a
     → PartOf value (toldPart (r .«common_name»)) b → PartOf value (toldPart (r .cipher)) c → PartOf value (toldPart (r .signature)) d
-    → PartOf value (toldPart (r .key)) e → piecesOf (presentIn r) (now a) (now b) (now c) (now d) (now e) ≡ piecesIn (now value) (saidIn (now value) .parts)
+    → PartOf value (toldPart (r .key)) e
+    → sslValue (r .client) (r .verify) (piecesOf (presentIn r) (now a) (now b) (now c) (now d) (now e)) ≡ textOf (now value) (saidIn (now value))
 calls-again value a b c d e r told v n x s k =
     (λ i.
-    given-again value a (toldPart (r .version)) v i
+    sslValue (r .client) (r .verify)
+    (given-again value a (toldPart (r .version)) v i
     ∷ given-again value b (toldPart (r .«common_name»)) n i
     ∷ given-again value c (toldPart (r .cipher)) x i
     ∷ given-again value d (toldPart (r .signature)) s i
     ∷ given-again value e (toldPart (r .key)) k i
-    ∷ [])
-    ∙ ap (λ (t : Said). piecesIn (now value) (t .parts)) told
+    ∷ []))
+    ∙ ap (textOf (now value)) told

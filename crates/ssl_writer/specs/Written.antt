@@ -33,7 +33,7 @@ subsFor type (some bytes ∷ rest) = record { type = type; value = bytes } ∷ s
 abbrev pub sslValue : (client verify : ℕ) → List Piece → List ℕ
 sslValue client verify pieces = client ∷ network32 verify ++ written (subsFor 0x21 pieces)
 
--- "It checks 20, then 13 for a piece or the value over 65,535 bytes, then 14": a value is longer than each of its pieces (`piece-within`), so that its length decides
+-- "It checks 20, then 13 for a piece or the value over 65,535 bytes, then 14": a value is longer than each of its pieces (`piece-within` in `ReadBack.antt`), so that its length decides
 abbrev pub sslAnswer : (client verify : ℕ) (pieces : List Piece) (room : ℕ) → WriteAnswer
 sslAnswer client verify pieces room =
     pick (lacksVersion client (isAbsent (getD pieces 0 none))) (refuses 20)

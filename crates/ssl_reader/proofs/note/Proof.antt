@@ -23,7 +23,7 @@ returns-2 c =
 returns-3 : tie.Need-returns-3
 returns-3 c =
     let x = c .before .before .before .before .args in
-    (omega arith, again-noted (x .tlv-type) _ _ (x .tlv-type - 0x21) (now (x .found)) (omega arith) (omega arith) (c .if3 .taken))
+    (omega arith, again-noted (x .tlv-type) _ _ (x .tlv-type - 0x21) (now (x .found)) (omega arith) (omega arith) (λ e. omega arith))
 
 slice-write-found-2 : tie.Need-slice-write-found-2
 slice-write-found-2 c = simp length-set (omega arith)
@@ -31,7 +31,7 @@ slice-write-found-2 c = simp length-set (omega arith)
 returns-4 : tie.Need-returns-4
 returns-4 c =
     let x = c .before .before .before .before .args in
-    (simp length-set (omega arith), first-noted (x .tlv-type) _ _ (x .tlv-type - 0x21) (now (x .found)) (omega arith) (omega arith) (c .if3 .left) (omega arith))
+    (simp length-set (omega arith), first-noted (x .tlv-type) _ _ (x .tlv-type - 0x21) (now (x .found)) (omega arith) (omega arith) (omega arith) (omega arith))
 
 pub note-spec : {M : Type 1} → statement M
 note-spec =

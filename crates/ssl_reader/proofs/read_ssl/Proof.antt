@@ -10,8 +10,6 @@ use Rattle.exact.specs.Parser.{bytes-of}
 use Rattle.tlv_step.specs.Step.{end, refused, toldStep}
 use Rattle.ssl_reader.specs.Ssl.{clientOf, isAbsent, lacksVersion}
 use Rattle.ssl_reader.specs.Told.{toldPart}
-use Rattle.ssl_reader.specs.declared.Piece.{Piece}
-use Rattle.ssl_reader.specs.declared.Piece.the-variants.{Absent}
 use Rattle.ssl_reader.specs.Laws.{said-short}
 use Rattle.ssl_reader.proofs.Turn.{Passed, passed-none, Here, here, passed-here, ill, no-version, accepts}
 use Rattle.ssl_reader.proofs.read_ssl.Statement.{statement}
