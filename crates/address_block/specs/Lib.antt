@@ -1,2 +1,1 @@
 pub mod AddressBlock
-pub mod AddressBlockLaws

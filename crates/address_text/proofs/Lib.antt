@@ -1,1 +1,5 @@
 pub mod Copies
+pub mod AddressLaws
+pub mod Form
+pub mod Gaps
+pub mod Texts

@@ -1,4 +1,3 @@
 pub mod Admits
 pub mod Demand
 pub mod Callers
-pub mod Example

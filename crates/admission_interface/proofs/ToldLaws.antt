@@ -14,20 +14,20 @@ use Rattle.exact.specs.Claim.{accepted, more, refused}
 use Rattle.exact.specs.Network.{network}
 use Rattle.record.specs.declared.Kind.{Kind}
 use Rattle.kind_code.specs.States.{state_byte}
-use Rattle.kind_code.specs.CodeLaws.{code_kind}
+use Rattle.kind_code.proofs.CodeLaws.{code_kind}
 use Rattle.header.specs.Header.{Header, Whole}
 use Rattle.fields.specs.Exactness.{verdict}
-use Rattle.fields.specs.Facts.{record_plain}
+use Rattle.fields.proofs.Facts.{record_plain}
 use Rattle.lent.specs.Buffers.{over, told_in}
-use Rattle.lent.specs.BufferLaws.{roomy, over-over, over_all}
+use Rattle.lent.proofs.BufferLaws.{roomy, over-over, over_all}
 use Rattle.numbers.specs.declared.Told.{Told}
 use Rattle.connection.specs.Connection.{connection_bytes}
 use Rattle.read_interface.specs.ReadInterface.{spoken, ReadTold}
-use Rattle.read_interface.specs.AcceptedTold.{AcceptedTold, whole, area_told, sized, long_numbers}
+use Rattle.read_interface.proofs.AcceptedTold.{AcceptedTold, whole, area_told, sized, long_numbers}
 use Rattle.prefix_table.specs.Table.{rows_of, Good}
 use Rattle.profile.specs.Profile.{Admission, origin_of, by_version, source_level}
 use Rattle.admission.specs.Admits.{admission_by, admission}
-use Rattle.admission.specs.Demand.{by_good}
+use Rattle.admission.proofs.Demand.{by_good}
 use Rattle.admission_interface.specs.AdmissionInterface.{told_admission, four_of, AdmissionTold}
 use Rattle.admission_interface.specs.KindFrom.{known_kind, kind_from}
 

@@ -1,5 +1,4 @@
 pub mod Answers
 pub mod Sight
 pub mod OneSight
-pub mod StageLaws
 pub mod OutputLaws

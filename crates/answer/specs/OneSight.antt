@@ -1,6 +1,5 @@
 -- Nothing of what is seen is left open: the verdict on the bytes tells all of it.
-use Rattle.std.specs.Prelude.{◌≡◌, refl, List, [], ◌∷◌, ℕ, ◌-◌, get_or}
-use Rattle.std.proofs.Common.{sym, ap, ap₂, ◌∙◌}
+use Rattle.std.specs.Prelude.{[], ◌∷◌, ℕ, ◌-◌, get_or}
 use Rattle.exact.specs.Claim as Claim
 use Rattle.exact.specs.Claim.{accepted, more, refused}
 use Rattle.header.specs.Header.{Header}
@@ -8,11 +7,6 @@ use Rattle.answer.specs.declared.Refusal.{Refusal}
 use Rattle.answer.specs.declared.Refusal.TheVariants.{Start, Word, Address, Port, End, Command, Family, Length, Tlv}
 use Rattle.answer.specs.declared.Verdict.{Verdict}
 use Rattle.answer.specs.declared.Verdict.TheVariants.{Accepted, More, Refused}
-use Rattle.answer.specs.declared.Reading.{Reading}
-use Rattle.answer.specs.declared.Caller.{Caller}
-use Rattle.answer.specs.declared.Seen.{Seen}
-use Rattle.answer.specs.Answers.{number_of, told_verdict}
-use Rattle.answer.specs.Sight.{reading_of, caller_by, Sees}
 
 -- the refusal of a number from 1 to 9
 abbrev pub refusal_of : ℕ → Refusal
@@ -23,25 +17,3 @@ abbrev pub verdict_by : Claim.Verdict Header → Verdict
 verdict_by (accepted h n) = Accepted n h.version
 verdict_by (more n) = More n
 verdict_by (refused k p) = Refused (refusal_of k) p
-
-refusal_again : (k : Refusal) → refusal_of (number_of k) ≡ k
-refusal_again Start = refl
-refusal_again Word = refl
-refusal_again Address = refl
-refusal_again Port = refl
-refusal_again End = refl
-refusal_again Command = refl
-refusal_again Family = refl
-refusal_again Length = refl
-refusal_again Tlv = refl
-
-verdict_again : (s : List ℕ) (w : Verdict) (r : Reading) → verdict_by (told_verdict s w r) ≡ w
-verdict_again s (Accepted n v) r = refl
-verdict_again s (More n) r = refl
-verdict_again s (Refused k p) r = ap (λ (j : Refusal). Refused j p) (refusal_again k)
-
--- what is seen is this, and nothing else
-pub sees_one : (s : List ℕ) (v : Claim.Verdict Header) (x : Seen) → Sees s v x → x ≡ record { verdict = verdict_by v; caller = caller_by v }
-sees_one s v x sees =
-    ap₂ (λ (w : Verdict) (c : Caller). record { verdict = w; caller = c })
-    (sym (verdict_again s x.verdict (reading_of s x)) ∙ ap verdict_by sees.answers.told) sees.caller

@@ -12,7 +12,7 @@ use Rattle.fields.specs.BlockFields.{blocked}
 use Rattle.answer.specs.declared.Seen.{Seen}
 use Rattle.answer.specs.Answers.{area_of}
 use Rattle.answer.specs.Sight.{Sees}
-use Rattle.answer.specs.StageLaws.{sees_as}
+use Rattle.answer.proofs.StageLaws.{sees_as}
 
 -- a header of n bytes that says the record y and the TLV area a
 pub as_block : (s : List ℕ) (n : ℕ) (x y : Record) (a : List ℕ) {seen : Seen} → x ≡ y → area_of 2 y.kind (take n s) ≡ a

@@ -8,7 +8,8 @@ use native.Mathlib.Omega.{arith}
 use lib.ListN.{length, take, drop, length-drop}
 use Rattle.exact.specs.Claim.{Verdict, accepted, more, refused, AllBytes}
 use Rattle.exact.specs.Field.{shift, flat}
-use Rattle.exact.specs.Parser.{Parser, just, spell, reach, reach-le}
+use Rattle.exact.specs.Parser.{Parser, just, spell, reach}
+use Rattle.exact.proofs.Parser.{reach-le}
 use Rattle.exact.specs.Byte.{count_verdict}
 use Rattle.record.specs.declared.Kind.{Kind}
 use Rattle.tlv.specs.RegionVerdict.{judge}
@@ -21,7 +22,7 @@ use Rattle.fields.specs.BlockFields.{blocked, address, port, port-least, area, f
 use Rattle.answer.specs.declared.Seen.{Seen}
 use Rattle.answer.specs.Answers.{area_of}
 use Rattle.answer.specs.Sight.{Sees}
-use Rattle.answer.specs.StageLaws.{sees_as, as_more, as_refused, as_accepted}
+use Rattle.answer.proofs.StageLaws.{sees_as, as_more, as_refused, as_accepted}
 use Rattle.block_body.proofs.Parts.{port_at, record_at, record_at_lem}
 use Rattle.block_body.proofs.Takes.{Short, Takes, next, next_short, then_short, then_at}
 use Rattle.block_body.proofs.Leaves.{takes_count, takes_spelled, takes_port, area_judged}

@@ -10,8 +10,8 @@ use lib.Seq.{drop-drop}
 use borrow.Author.Tests.{ltb-true, ltb-false}
 use Rattle.exact.specs.Claim.{Verdict, accepted, more, AllBytes}
 use Rattle.exact.specs.Field.{after, shift}
-use Rattle.exact.specs.MachineLaws.{shift-shift}
-pub use Rattle.exact.specs.Parser.{bytes_of, bytes_drop}
+use Rattle.exact.proofs.MachineLaws.{shift-shift}
+pub use Rattle.exact.proofs.Parser.{bytes_of, bytes_drop}
 
 -- ── fields of n bytes ──
 module _ {A : Type 0} (v : List ℕ → Verdict A) where

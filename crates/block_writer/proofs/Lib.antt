@@ -1,1 +1,5 @@
 pub mod WrittenLaws
+pub mod AreaLaws
+pub mod Demand
+pub mod OrderLaws
+pub mod WholeBlock

@@ -8,9 +8,9 @@ use Rattle.record.specs.declared.Record.{Record}
 use Rattle.record.specs.Kinds.{block_length}
 use Rattle.record.specs.Records.{Sized}
 use Rattle.address_block.specs.AddressBlock.{address_block}
-use Rattle.address_block.specs.AddressBlockLaws.{block_size}
+use Rattle.address_block.proofs.AddressBlockLaws.{block_size}
 use Rattle.lent.specs.Placed.{placed}
-use Rattle.lent.specs.PlacedLaws.{placed_then}
+use Rattle.lent.proofs.PlacedLaws.{placed_then}
 use Rattle.head_writer.specs.Head.{head_of}
 use Rattle.block_writer.specs.Written.{block_of, written_block, block_placed}
 

@@ -14,20 +14,24 @@ use Rattle.exact.specs.Pick.{pick, pick_by}
 use Rattle.exact.specs.Network.{network}
 use Rattle.lent.specs.Same.{same}
 use Rattle.tlv.specs.Tlv.{Tlv, tlv_bytes, written, Area, WellFormed}
-use Rattle.tlv.specs.Laws.{written-append, area_rest}
-use Rattle.tlv.specs.Test.{well_formed, well_formed_tested}
-use Rattle.tlv.specs.Listed.{tlvs_of, tlvs_of_lem, few}
-use Rattle.tlv.specs.Heads.{head_rest}
+use Rattle.tlv.proofs.Laws.{written-append, area_rest}
+use Rattle.tlv.specs.Test.{well_formed}
+use Rattle.tlv.proofs.Test.{well_formed_tested}
+use Rattle.tlv.specs.Listed.{tlvs_of}
+use Rattle.tlv.proofs.Listed.{tlvs_of_lem, few}
+use Rattle.tlv.proofs.Heads.{head_rest}
 use Rattle.crc.specs.Crc.{checksum, stored, cleared}
 use Rattle.lookup.specs.declared.Examined.{Examined}
-use Rattle.lookup.specs.Lookup.{found, absent, Lookup, found_at, without, told_finding, told_lookup, index_of_first, lookup_in, ill_formed, lookup_listed, LooksUp}
-use Rattle.lookup.specs.Laws.{first_counts}
+use Rattle.lookup.specs.Lookup.{found, absent, Lookup, found_at, without, told_finding, told_lookup, index_of_first, lookup_in, ill_formed, LooksUp}
+use Rattle.lookup.proofs.LookupLemmas.{lookup_listed}
+use Rattle.lookup.proofs.Laws.{first_counts}
 use Rattle.tlv_count.specs.Count.{count_of, none_test}
 use Rattle.record.specs.declared.Checksum.{Checksum}
 use Rattle.record.specs.declared.Checksum.TheVariants.{Absent, Matched}
 use Rattle.checksum.specs.Checksum.{values_of, zeroed, checksum_of, Wrong, not_four, several}
-use Rattle.checksum.specs.ChecksumLaws.{values_append, count_values, no_values, values_first, zeroed_one, checksum_parts}
-use Rattle.checksum.specs.State.{state_by, state_in, no_checksum, wrong, means_one}
+use Rattle.checksum.proofs.ChecksumLaws.{values_append, count_values, no_values, values_first, zeroed_one, checksum_parts}
+use Rattle.checksum.specs.State.{state_by, state_in, no_checksum, wrong}
+use Rattle.checksum.proofs.State.{means_one}
 use Rattle.checked_reader.specs.First.{LastPart, First, FirstAt}
 
 -- ── the first TLV of a type ──

@@ -10,20 +10,21 @@ use lib.ListN.{length, take, drop}
 use lib.Seq.{take-add, drop_at, length-take-le}
 use Rattle.exact.specs.Pick.{pick}
 use Rattle.tlv.specs.Tlv.{WellFormed}
-use Rattle.tlv.specs.Test.{well_formed, well_formed_tested}
+use Rattle.tlv.specs.Test.{well_formed}
+use Rattle.tlv.proofs.Test.{well_formed_tested}
 use Rattle.tlv.specs.Listed.{tlvs_of}
 use Rattle.record.specs.declared.Kind.{Kind}
 use Rattle.record.specs.declared.Kind.TheVariants.{Local, Unspecified, Ip4, Ip6, Unix}
 use Rattle.record.specs.declared.Checksum.TheVariants.{Absent}
 use Rattle.record.specs.Kinds.{block_length}
 use Rattle.header.specs.Demand.{Judges}
-use Rattle.fields.specs.Facts.{area_filled}
+use Rattle.fields.proofs.Facts.{area_filled}
 use Rattle.answer.specs.declared.Verdict.{Verdict}
 use Rattle.answer.specs.declared.Verdict.TheVariants.{Accepted, More, Refused}
 use Rattle.answer.specs.declared.Reading.{Reading}
 use Rattle.answer.specs.Answers.{block_area, told_verdict}
 use Rattle.area.specs.Area.{area_by, area_start, area_end}
-use Rattle.area.specs.AreaLaws.{area_inside, area_part}
+use Rattle.area.proofs.AreaLaws.{area_inside, area_part}
 use Rattle.checksum.specs.State.{state_in, state_from, state_on}
 
 -- a part of the bytes, cut at its end and then at its start

@@ -7,13 +7,13 @@ use lib.ListN.{length, take, drop, replicate, length-append}
 use lib.Seq.{take_at}
 use Rattle.exact.specs.Network.{network}
 use Rattle.lent.specs.Placed.{placed}
-use Rattle.lent.specs.PlacedLaws.{placed_next, placed_then, placed_start, placed-length, placed_over}
+use Rattle.lent.proofs.PlacedLaws.{placed_next, placed_then, placed_start, placed-length, placed_over}
 use Rattle.tlv.specs.Tlv.{tlv_bytes}
 use Rattle.record.specs.declared.Record.{Record}
 use Rattle.record.specs.Kinds.{block_length}
 use Rattle.record.specs.Records.{Sized}
 use Rattle.address_block.specs.AddressBlock.{address_block}
-use Rattle.address_block.specs.AddressBlockLaws.{block_size}
+use Rattle.address_block.proofs.AddressBlockLaws.{block_size}
 use Rattle.head_writer.specs.Head.{head_of}
 use Rattle.block_writer.specs.Written.{block_of, written_block, block_placed}
 use Rattle.block_writer.proofs.WrittenLaws.{block_placed_lem}

@@ -1,10 +1,9 @@
 -- The same as functions: the state of a header, and the answer to bytes.
-use Rattle.std.specs.Prelude.{◌≡◌, refl, Bool, true, false, List, [], ◌∷◌, ℕ, ◌≤◌, length, take, drop}
-use Rattle.std.proofs.Common.{ap, ◌∙◌, arith}
+use Rattle.std.specs.Prelude.{◌≡◌, List, [], ◌∷◌, ℕ, take, drop}
 use Rattle.std.proofs.Math.Option.{Option, some, none}
 use Rattle.exact.specs.Claim.{Verdict, accepted, more, refused}
 use Rattle.exact.specs.Pick.{pick}
-use Rattle.lent.specs.Same.{same, same_equal}
+use Rattle.lent.specs.Same.{same}
 use Rattle.tlv.specs.Tlv.{Tlv}
 use Rattle.tlv.specs.Test.{well_formed}
 use Rattle.tlv.specs.Listed.{tlvs_of}
@@ -12,7 +11,7 @@ use Rattle.record.specs.declared.Checksum.{Checksum}
 use Rattle.record.specs.declared.Checksum.TheVariants.{Absent, Matched}
 use Rattle.header.specs.Header.{Header}
 use Rattle.fields.specs.Exactness.{verdict}
-use Rattle.checksum.specs.Checksum.{values_of, checksum_of, Right, Wrong, differs, not_four, several}
+use Rattle.checksum.specs.Checksum.{values_of, checksum_of, Right, Wrong}
 use Rattle.checksum.specs.Checked.{CheckedVerdict, judged, refuses, tlvs_in, in_state}
 
 -- by the values of the 0x03 TLVs, and the checksum: the state, or none where the checksum is wrong
@@ -33,47 +32,6 @@ pub data Means (f : List ℕ) (tlvs : List Tlv) : Option Checksum → Type 0 whe
   no_checksum : values_of 0x03 tlvs ≡ [] → Means f tlvs (some Absent)
   right : Right f tlvs → Means f tlvs (some Matched)
   wrong : Wrong f tlvs → Means f tlvs none
-
-module _ (f : List ℕ) (tlvs : List Tlv) where
-  means_by : (values : List (List ℕ)) → values_of 0x03 tlvs ≡ values → Means f tlvs (state_by values (checksum_of f tlvs))
-  means_by [] e = no_checksum e
-  means_by (value ∷ []) e = by (same value (checksum_of f tlvs)) refl
-    where
-      by : (b : Bool) → same value (checksum_of f tlvs) ≡ b → Means f tlvs (pick b (some Matched) none)
-      by true t = right (e ∙ ap (λ (v : List ℕ). v ∷ []) ((same_equal value (checksum_of f tlvs)).0 t))
-      by false t =
-          wrong (differs value e (λ s. let u = (same_equal value (checksum_of f tlvs)).1 s in let z : ◌≡◌ {A = ℕ} 0 1 = cc in omega arith))
-  means_by (value ∷ another ∷ rest) e = wrong (several (let n = ap length e in omega arith))
-
-  pub state_means : Means f tlvs (state_in f tlvs)
-  state_means = means_by (values_of 0x03 tlvs) refl
-
-  -- by its values
-  by_values : {values : List (List ℕ)} → values_of 0x03 tlvs ≡ values → state_in f tlvs ≡ state_by values (checksum_of f tlvs)
-  by_values = ap (λ (v : List (List ℕ)). state_by v (checksum_of f tlvs))
-
-  one : (value : List ℕ) (b : Bool) → same value (checksum_of f tlvs) ≡ b → values_of 0x03 tlvs ≡ value ∷ [] → state_in f tlvs ≡ pick b (some Matched) none
-  one value b e v = by_values v ∙ ap (λ (x : Bool). pick x (some Matched) none) e
-
-  other : (value : List ℕ) → (value ≡ checksum_of f tlvs → ⊥) → same value (checksum_of f tlvs) ≡ false
-  other value n = by (same value (checksum_of f tlvs)) refl
-    where
-      by : (b : Bool) → same value (checksum_of f tlvs) ≡ b → b ≡ false
-      by true t = absurd (n ((same_equal value (checksum_of f tlvs)).0 t))
-      by false t = refl
-
-  more_than_one : (values : List (List ℕ)) → 2 ≤ length values → state_by values (checksum_of f tlvs) ≡ none
-  more_than_one [] h = absurd (omega arith)
-  more_than_one (value ∷ []) h = absurd (omega arith)
-  more_than_one (value ∷ another ∷ rest) h = refl
-
-  -- no other state means that
-  pub means_one : (x : Option Checksum) → Means f tlvs x → state_in f tlvs ≡ x
-  means_one (some Absent) (no_checksum e) = by_values e
-  means_one (some Matched) (right r) = one (checksum_of f tlvs) true ((same_equal (checksum_of f tlvs) (checksum_of f tlvs)).1 refl) r
-  means_one none (wrong (differs value v n)) = one value false (other value n) v
-  means_one none (wrong (not_four value v n)) = one value false (other value (λ e. n (ap length e))) v
-  means_one none (wrong (several h)) = more_than_one (values_of 0x03 tlvs) h
 
 -- what a checked reading answers, by the verdict on the bytes
 abbrev pub by_state : Header → ℕ → Option Checksum → CheckedVerdict

@@ -1,2 +1,1 @@
 pub mod Unused
-pub mod UnusedLaws

@@ -10,11 +10,11 @@ use Rattle.record.specs.declared.Kind.{Kind}
 use Rattle.record.specs.declared.Record.{Record}
 use Rattle.record.specs.Kinds.{address_length}
 use Rattle.record.specs.Records.{held, record_of, with_checksum}
-use Rattle.record.specs.RecordLaws.{same_record}
-use Rattle.address_block.specs.AddressBlockLaws.{address_fits}
+use Rattle.record.proofs.RecordLaws.{same_record}
+use Rattle.address_block.proofs.AddressBlockLaws.{address_fits}
 use Rattle.address_block.specs.AddressBlock.{block_record}
 use Rattle.lent.specs.Placed.{placed}
-use Rattle.lent.specs.PlacedLaws.{placed_then, placed_front}
+use Rattle.lent.proofs.PlacedLaws.{placed_then, placed_front}
 use Rattle.answer.specs.declared.Verdict.{Verdict}
 use Rattle.answer.specs.declared.Caller.{Caller}
 use Rattle.answer.specs.Sight.{caller_record, in_bytes, record_by}

@@ -6,7 +6,7 @@ use lib.ListN.{take, drop, replicate}
 use lib.Seq.{drop-drop}
 use lib.Bits.{bit_xor}
 use Rattle.crc.specs.Crc.{register, ones, checksum, cleared}
-use Rattle.crc.specs.PartLaws.{in_parts}
+use Rattle.crc.proofs.PartLaws.{in_parts}
 
 pub around : (at : ℕ) (bs : List ℕ)
     → bit_xor (register (register (register ones (take at bs)) (replicate 4 0)) (drop 4 (drop at bs))) ones ≡ checksum (cleared at bs)

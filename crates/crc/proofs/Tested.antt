@@ -7,7 +7,8 @@ use native.Mathlib.Omega.{arith}
 use lib.Arith.{digits_div, digits_mod}
 use lib.ListN.{get_or}
 use lib.Bits.{bit_xor}
-use Rattle.exact.specs.Below.{table_below, entry_below}
+use Rattle.exact.specs.Below.{table_below}
+use Rattle.exact.proofs.Below.{entry_below}
 use Rattle.crc.specs.Crc.{bits}
 use Rattle.crc.specs.Table.{Right}
 use Rattle.crc.proofs.Linear.{halves}

@@ -8,7 +8,7 @@ use lib.ListN.{length, take, drop, get_or, length-drop, take-append-drop, drop_o
 use lib.Seq.{drop-cons, drop-drop, length-take-le}
 use lib.Bits.{bit_xor, xor_zero_r}
 use Rattle.crc.specs.Crc.{bits, byte, register}
-use Rattle.crc.specs.PartLaws.{in_parts}
+use Rattle.crc.proofs.PartLaws.{in_parts}
 use Rattle.crc.proofs.Linear.{onto}
 
 -- the byte at i, of those that are left

@@ -1,4 +1,3 @@
 pub mod Crc
 pub mod Vectors
-pub mod PartLaws
 pub mod Table

@@ -1,17 +1,17 @@
 -- For proofs. The leaf of decimal text that a byte ends: its verdicts are exact.
-use Rattle.std.specs.Prelude.{◌≡◌, refl, List, [], ◌∷◌, ◌↔◌, ℕ, ◌+◌, ◌*◌, ◌-◌, ◌≤◌, ◌<◌, eqb, leb, length}
+use Rattle.std.specs.Prelude.{◌≡◌, refl, List, [], ◌∷◌, ◌↔◌, ℕ, ◌+◌, ◌*◌, ◌-◌, ◌≤◌, ◌<◌, eqb, leb}
 use Rattle.std.proofs.Common.{sym, subst, ⊎_elim, le_refl, arith, eqb-true, eq-eqb, leb-true, leb-false, le-leb}
 use Rattle.std.proofs.lemmas.Bool.{eqb-false}
 use Rattle.exact.specs.Claim.{AllBytes}
 use Rattle.exact.specs.Field.{Least, flat, Exact}
 use Rattle.exact.specs.MachineLaws.{machine_exact, least_at, Sound, Attains, NoLess, Leasts}
-use Rattle.exact.specs.Machine.{leaf, Move}
+use Rattle.exact.specs.Machine.{leaf}
 use Rattle.exact.specs.Pick.{pick_by}
-use Rattle.exact.specs.Parser.{Parser, ended_bytes}
+use Rattle.exact.specs.Parser.{Parser}
+use Rattle.exact.proofs.Parser.{ended_bytes}
 use Rattle.exact.specs.Ended.{Ended}
 use Rattle.decimal.specs.Decimal.{Digit, Digits, Plain, value_on, Decimal}
-use Rattle.exact.specs.Verdicts.{Within, Keeps, run_within, Few, run_few}
-use Rattle.exact.specs.Endings.{ended_solid, ended_first, ended_more, ended_last, ended_map}
+use Rattle.exact.proofs.Endings.{ended_solid, ended_first, ended_more, ended_last, ended_map}
 use Rattle.decimal.specs.DecimalVerdict.{At, start, behind, digit, step_decimal, least_decimal, decimal_verdict}
 
 -- ── what may follow ──
@@ -26,7 +26,7 @@ abbrev Rest : ℕ → At → List ℕ → ℕ → Type 0
 Rest bound start = Decimal bound
 Rest bound (behind m) = Tail bound m
 
-abbrev Ok : ℕ → At → Type 0
+abbrev pub Ok : ℕ → At → Type 0
 Ok bound start = Unit {0}
 Ok bound (behind m) = m ≤ bound
 
@@ -193,30 +193,3 @@ decimal k m bound end apart small =
       opens = decimal_least bound end apart m k;
       bytes = ended_bytes (Decimal bound) end small (decimal_bytes bound);
     }
-
--- ── whatever ends it, an accepted number is at most the bound, and a count at most 2 ──
-module _ (bound end : ℕ) where
-  abbrev Keep : Move At ℕ → Type 0
-  Keep = Keeps (Ok bound) (λ (n : ℕ). n ≤ bound)
-
-  digit_keeps : (n c : ℕ) → Keep (digit bound n c)
-  digit_keeps n c =
-      pick_by Keep (leb 48 c)
-      (λ low.
-      pick_by Keep (leb c 57) (λ high. pick_by Keep (leb (n * 10 + (c - 48)) bound) (λ fits. leb-true _ _ fits) (λ over. tt)) (λ high. tt))
-      (λ low. tt)
-
-  step_keeps : (q : At) (c : ℕ) → Ok bound q → Keep (step_decimal bound end q c)
-  step_keeps start c ok = digit_keeps 0 c
-  step_keeps (behind n) c ok =
-      pick_by Keep (eqb c end) (λ t. ok) (λ t. pick_by Keep (eqb n 0) (λ z. tt) (λ z. digit_keeps n c))
-
-  pub decimal_within : (k m : ℕ) (s : List ℕ) → Within (λ (n : ℕ). n ≤ bound) (length s) (decimal_verdict k m bound end s)
-  decimal_within k m s = run_within (Ok bound) (λ (n : ℕ). n ≤ bound) k (step_decimal bound end) (least_decimal m) step_keeps s start tt
-
-  pub decimal_few : (k m : ℕ) (s : List ℕ) → Few (2 + m) (decimal_verdict k m bound end s)
-  decimal_few k m s = run_few (2 + m) k (step_decimal bound end) (least_decimal m) most s start
-    where
-      most : (q : At) → least_decimal m q ≤ 2 + m
-      most start = omega arith
-      most (behind n) = omega arith

@@ -2,4 +2,3 @@ pub mod Decimal
 pub mod DecimalVerdict
 pub mod DecimalLeaf
 pub mod Grows
-pub mod DecimalLaws

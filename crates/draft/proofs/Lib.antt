@@ -1,1 +1,4 @@
 pub mod Joined
+pub mod Decimals
+pub mod DraftLaws
+pub mod NumeralLaws

@@ -1,5 +1,2 @@
 pub mod Numeral
 pub mod Drafts
-pub mod NumeralLaws
-pub mod Decimals
-pub mod DraftLaws

@@ -9,9 +9,6 @@ pub mod Choice
 pub mod Machine
 pub mod MachineLaws
 pub mod Parser
-pub mod Stage
-pub mod Unique
-pub mod Theorem
 pub mod Literal
 pub mod LiteralLaws
 pub mod Byte
@@ -19,6 +16,4 @@ pub mod Number
 pub mod Ended
 pub mod Valueless
 pub mod Scans
-pub mod Numbered
 pub mod Verdicts
-pub mod Endings

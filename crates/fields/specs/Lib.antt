@@ -5,8 +5,5 @@ pub mod BlockFields
 pub mod BlockMembers
 pub mod Places
 pub mod Exactness
-pub mod TableRight
-pub mod FactsForProofs
 pub mod Facts
-pub mod Counts
 pub mod Reads

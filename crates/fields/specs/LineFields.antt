@@ -4,8 +4,10 @@ use Rattle.std.proofs.Common.{arith}
 use Rattle.exact.specs.Claim.{AllBytes}
 use Rattle.exact.specs.Ascii.{ascii}
 use Rattle.exact.specs.Field.{flat}
-use Rattle.exact.specs.Parser.{Parser, Starts, just, ◌then◌, either, starts_seq}
-use Rattle.exact.specs.LiteralLaws.{text, starts_text}
+use Rattle.exact.specs.Parser.{Parser, Starts, just, ◌then◌, either}
+use Rattle.exact.proofs.Parser.{starts_seq}
+use Rattle.exact.specs.LiteralLaws.{text}
+use Rattle.exact.proofs.LiteralLaws.{starts_text}
 use Rattle.decimal.specs.DecimalLeaf.{decimal}
 use Rattle.line_end.specs.LineLeaf.{line_end}
 use Rattle.record.specs.declared.Transport.TheVariants.{Stream}

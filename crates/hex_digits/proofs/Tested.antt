@@ -7,9 +7,10 @@ use native.Mathlib.Omega.{arith}
 use lib.Dec.{leb}
 use borrow.Author.Tests.{leb-true, leb-false}
 use Rattle.exact.specs.Pick.{pick_by}
-use Rattle.exact.specs.Below.{table_below, entry_below}
+use Rattle.exact.specs.Below.{table_below}
+use Rattle.exact.proofs.Below.{entry_below}
 use Rattle.hex_digits.specs.Hex.{hex_of}
-use Rattle.hex_digits.specs.HexLaws.{hex_behind}
+use Rattle.hex_digits.proofs.HexLaws.{hex_behind}
 use Rattle.hex_digits.specs.Table.{HexTable}
 
 -- an entry is tested, and behind the table there is no digit

@@ -1,1 +1,3 @@
 pub mod Turn
+pub mod Ip4Laws
+pub mod Ip4Leaf

@@ -8,7 +8,7 @@ use lib.ListN.{length, take, drop, set}
 use lib.Seq.{take_all, take-suc-set, drop-drop}
 use Rattle.exact.specs.Claim.{Verdict, accepted, more, refused}
 use Rattle.exact.specs.Field.{after, shift}
-use Rattle.exact.specs.MachineLaws.{shift-shift, shift_zero}
+use Rattle.exact.proofs.MachineLaws.{shift-shift, shift_zero}
 use Rattle.decimal.specs.DecimalVerdict.{decimal_verdict}
 use Rattle.ip4.specs.Ip4Verdict.{end_of, octets_verdict, ip4_verdict}
 

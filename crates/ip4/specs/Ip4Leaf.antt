@@ -1,17 +1,15 @@
 -- For proofs. The leaf of IPv4 text that a byte ends: four decimals, one behind the other.
-use Rattle.std.specs.Prelude.{◌≡◌, refl, List, [], ◌∷◌, ◌++◌, ℕ, zero, suc, ◌+◌, ◌*◌, ◌≤◌, ◌<◌, eqb}
+use Rattle.std.specs.Prelude.{◌≡◌, refl, List, [], ◌∷◌, ◌++◌, ℕ, zero, suc, ◌+◌, ◌*◌, ◌<◌, eqb}
 use Rattle.std.proofs.Common.{subst, append_assoc, append-nil, ⊎_elim, arith}
 use Rattle.exact.specs.Field.{Exact, Least, flat}
 use Rattle.exact.specs.Machine.{leaf}
 use Rattle.exact.specs.Pick.{pick_by}
 use Rattle.exact.specs.Parser.{Parser, InBytes, just, ◌then◌, recast}
-use Rattle.exact.specs.Verdicts.{Few, few_more, few_after}
 use Rattle.exact.specs.Ended.{Ended}
 use Rattle.decimal.specs.Decimal.{Digit}
 use Rattle.ip4.specs.Ip4.{Address}
-use Rattle.decimal.specs.DecimalLeaf.{decimal, decimal_few}
-use Rattle.decimal.specs.DecimalVerdict.{decimal_verdict}
-use Rattle.ip4.specs.Ip4Verdict.{end_of, octets_verdict, ip4_verdict}
+use Rattle.decimal.specs.DecimalLeaf.{decimal}
+use Rattle.ip4.specs.Ip4Verdict.{end_of, ip4_verdict}
 
 module _ (k m end : ℕ) (apart : Digit end → ⊥) (small : end < 256) where
   end_apart : (left : ℕ) → Digit (end_of end left) → ⊥
@@ -118,15 +116,3 @@ module _ (k m end : ℕ) (apart : Digit end → ⊥) (small : end < 256) where
         opens = ip4_least;
         bytes = ip4_bytes;
       }
-
--- no count is over that of no bytes
-octets_few : (k m end left : ℕ) (octets s : List ℕ) → left ≤ 4 → Few (8 + m) (octets_verdict k m end left octets s)
-octets_few k m end zero octets s h = tt
-octets_few k m end (suc left) octets s h =
-    few_after (8 + m) (decimal_verdict k (2 * left + m) 255 (end_of end left) s) (λ n r. octets_verdict k m end left (octets ++ n ∷ []) r) s
-    (few_more _ _ (decimal_verdict k (2 * left + m) 255 (end_of end left) s) (omega arith) (decimal_few 255 (end_of end left) k (2 * left + m) s))
-    (λ n r. octets_few k m end left (octets ++ n ∷ []) r (omega arith))
-
-pub ip4_few : (k m end : ℕ) (s : List ℕ) → Few (8 + m) (ip4_verdict k m end s)
-unfolding ip4_verdict
-ip4_few k m end s = octets_few k m end 4 [] s (omega arith)

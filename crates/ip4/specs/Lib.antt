@@ -2,4 +2,3 @@ pub mod Ip4
 pub mod Octets
 pub mod Ip4Verdict
 pub mod Ip4Leaf
-pub mod Ip4Laws

@@ -15,7 +15,8 @@ use Rattle.colon_part.specs.Part.{behind_double, behind_colon, part_at}
 use Rattle.colon_part.specs.declared.Part.{Part}
 use Rattle.colon_part.specs.declared.Part.TheVariants.{More, Refused, End, Group}
 use Rattle.ip6.specs.Machine.{Gathered, plain, gapped, room, State, digits, behind, colon, gap, finish, follow, step}
-use Rattle.ip6.specs.Steps.{colon_no_digit, colon-colon, begin_other}
+use Rattle.ip6.specs.Steps.{colon_no_digit}
+use Rattle.ip6.proofs.Steps.{colon-colon, begin_other}
 use Rattle.ip6.specs.Partial.{Partial, sofar, Sized, seen_at, gathered_of}
 use Rattle.ip6.specs.Answer.{From, Closed}
 use Rattle.ip6.proofs.Spread.{count-length}

@@ -7,7 +7,7 @@ use lib.Dec.{eqb}
 use Rattle.exact.specs.Claim.{Verdict, accepted, more, refused}
 use Rattle.exact.specs.Pick.{pick_by}
 use Rattle.exact.specs.declared.Scan.{Scan}
-use Rattle.exact.specs.MachineLaws.{from-go, from-done, from-dead, from_end}
+use Rattle.exact.proofs.MachineLaws.{from-go, from-done, from-dead, from_end}
 use Rattle.exact.specs.Machine.{Move, go, done, dead, from}
 use Rattle.exact.specs.declared.Scan.TheVariants.{More, Refused}
 use Rattle.ip6.specs.Machine.{Gathered, plain, gapped, State, finish, least, least_address, step}

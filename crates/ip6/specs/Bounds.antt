@@ -6,7 +6,7 @@ use Rattle.exact.specs.Ascii.{ascii}
 use Rattle.exact.specs.Claim.{AllBytes}
 use Rattle.hex_digits.specs.Hex.{hex_of}
 use Rattle.ip6.specs.Address.{HexDigits, Group, Groups, Side, Address}
-use Rattle.hex_digits.specs.HexLaws.{hex_byte}
+use Rattle.hex_digits.proofs.HexLaws.{hex_byte}
 
 abbrev pub AllWords : List ℕ → Type 0
 AllWords [] = Unit {0}

@@ -7,12 +7,11 @@ use native.Mathlib.Omega.{arith}
 use Rattle.std.proofs.Math.Dec.{eqb}
 use borrow.Author.Tests.{eqb-true, eqb-false, eq-eqb, ne_eqb, lt-ltb, le-ltb}
 use Rattle.exact.specs.Field.{flat}
-use Rattle.exact.specs.Machine.{Move, done, dead, run}
-use Rattle.exact.specs.Verdicts.{Few, run_few}
+use Rattle.exact.specs.Machine.{Move, done, dead}
 use Rattle.exact.specs.MachineLaws.{Attains, NoLess, Leasts}
 use Rattle.exact.specs.Pick.{pick, pick_by}
 use Rattle.hex_digits.specs.Hex.{hex_of}
-use Rattle.hex_digits.specs.HexLaws.{hex_zero}
+use Rattle.hex_digits.proofs.HexLaws.{hex_zero}
 use Rattle.ip6.specs.Address.{Ending}
 use Rattle.ip6.specs.Machine.{Gathered, plain, gapped, push, room, State, start, digits, behind, colon, gap, finish, least_behind, least_digit, least, least_address, follow, inside, step}
 use Rattle.ip6.specs.Read.{Fits, fits_push, Good}
@@ -23,7 +22,7 @@ same_push : (s : Gathered) (v w : ℕ) → least_behind (push s v) ≡ least_beh
 same_push (plain l) v w = ap (λ (n : ℕ). pick (eqb n 8) 1 3) (length-append l (v ∷ []) ∙ sym (length-append l (w ∷ [])))
 same_push (gapped l r) v w = refl
 
-behind_most : (s : Gathered) → least_behind s ≤ 3
+pub behind_most : (s : Gathered) → least_behind s ≤ 3
 behind_most (plain l) = pick_by (λ (n : ℕ). n ≤ 3) (eqb (length l) 8) (λ t. omega arith) (λ t. omega arith)
 behind_most (gapped l r) = omega arith
 
@@ -31,18 +30,11 @@ behind_some : (s : Gathered) → 1 ≤ least_behind s
 behind_some (plain l) = pick_by (λ (n : ℕ). 1 ≤ n) (eqb (length l) 8) (λ t. omega arith) (λ t. omega arith)
 behind_some (gapped l r) = omega arith
 
-digit_most : (n : ℕ) → least_digit n ≤ 1
+pub digit_most : (n : ℕ) → least_digit n ≤ 1
 digit_most n = pick_by (λ (d : ℕ). d ≤ 1) (eqb n 0) (λ t. omega arith) (λ t. omega arith)
 
 digit_none : (n : ℕ) → (n ≡ 0 → ⊥) → least_digit n ≡ 0
 digit_none n some = simp (ne_eqb n 0 some)
-
-least_most : (q : State) → least q ≤ 4
-least_most start = omega arith
-least_most (digits s n v) = let d = digit_most n in let b = behind_most (push s 0) in omega arith
-least_most (behind s) = let b = behind_most s in omega arith
-least_most (colon s) = omega arith
-least_most (gap l) = omega arith
 
 module _ (m end : ℕ) where
   -- ── no step undercuts it ──
@@ -148,6 +140,3 @@ module _ (m end : ℕ) where
 
     pub leasts : Leasts Good (step end) (least_address m) (flat m)
     leasts = record { byte = attaining; attains = attains; no_less = λ q c ok. no_less q c }
-
-pub address_few : (k m end : ℕ) (s : List ℕ) → Few (4 + m) (run k (step end) (least_address m) s start)
-address_few k m end s = run_few (4 + m) k (step end) (least_address m) (λ q. let h = least_most q in omega arith) s start

@@ -1,13 +1,11 @@
 -- For proofs. The field of an address with the byte that ends it, and its exact verdicts.
-use Rattle.std.specs.Prelude.{◌≡◌, refl, List, [], ◌∷◌, ◌++◌, ℕ}
-use Rattle.std.proofs.Common.{arith}
+use Rattle.std.specs.Prelude.{refl, List, [], ℕ}
 use Rattle.exact.specs.Claim.{AllBytes}
 use Rattle.exact.specs.Ended.{Ended}
 use Rattle.exact.specs.Field.{flat}
 use Rattle.exact.specs.Machine.{leaf}
-use Rattle.exact.specs.Parser.{Parser, machine, recast, ended_bytes}
-use Rattle.exact.specs.Unique.{unique}
-use Rattle.hex_digits.specs.Hex.{hex_of}
+use Rattle.exact.specs.Parser.{Parser, machine, recast}
+use Rattle.exact.proofs.Parser.{ended_bytes}
 use Rattle.ip6.specs.Address.{Address, Ending}
 use Rattle.ip6.specs.Bounds.{address_bounds, spelt_bytes}
 use Rattle.ip6.specs.Machine.{start, least_address, step}
@@ -26,14 +24,3 @@ ip6 k m end e =
     (leaf k (Ended Address end))
     (λ f vs. (runs_address end f vs, address_runs end e f vs))
     (λ u j o p. p)
-
--- the space that ends an address in a line
-pub space_ends : Ending 32
-unfolding hex_of
-space_ends = record { byte = omega arith; no_digit = λ h. omega arith; no_colon = λ h. omega arith }
-
--- a text says one address
-pub address_one : (f vs ws : List ℕ) → Address f vs → Address f ws → vs ≡ ws
-address_one f vs ws a b =
-    let ended : (us : List ℕ) → Address f us → Ended Address 32 (f ++ 32 ∷ []) us = λ us l. record { text = f; split = refl; whole = l } in
-    (unique (ip6 0 0 32 space_ends) (f ++ 32 ∷ []) ws (ended ws b) [] [] (f ++ 32 ∷ []) vs refl (ended vs a)).1

@@ -2,11 +2,11 @@
 use Rattle.std.specs.Prelude.{◌≡◌, refl, true, List, [], ◌∷◌, ℕ, ◌+◌, ◌*◌, ◌<◌}
 use Rattle.std.proofs.Common.{arith, lt-ltb, le-ltb, eq-eqb, ne_eqb}
 use Rattle.exact.specs.MachineLaws.{runs_at}
-use Rattle.exact.specs.Machine.{go, done, dead, Runs}
+use Rattle.exact.specs.Machine.{go, done, Runs}
 use Rattle.hex_digits.specs.Hex.{hex_of}
 use Rattle.ip6.specs.Address.{filled, Ending}
-use Rattle.hex_digits.specs.HexLaws.{hex_colon}
-use Rattle.ip6.specs.Machine.{Gathered, plain, push, room, State, digits, colon, gap, finish, follow, inside, step}
+use Rattle.hex_digits.proofs.HexLaws.{hex_colon}
+use Rattle.ip6.specs.Machine.{Gathered, push, room, State, digits, colon, gap, finish, follow, inside, step}
 
 pub colon_no_digit : hex_of 58 < 16 → ⊥
 colon_no_digit h = let e = hex_colon in omega arith
@@ -29,10 +29,6 @@ module _ (end : ℕ) where
   pub alike : (q p : State) (c : ℕ) (f vs : List ℕ) → step end q c ≡ step end p c → Takes p (c ∷ f) vs → Takes q (c ∷ f) vs
   alike q p c f vs h r = (runs_at (step end) q c (step end p c) h f vs).1 r
 
-  pub colon-colon : (l : List ℕ) → step end (colon (plain l)) 58 ≡ go (gap l)
-  colon-colon [] = refl
-  colon-colon (v ∷ l) = refl
-
   pub gap_end : (l : List ℕ) → step end (gap l) end ≡ done (filled l [])
   gap_end l = simp (eq-eqb end end refl)
 
@@ -47,6 +43,3 @@ module _ (end : ℕ) where
 
   pub inside-follow : (s : Gathered) (n v c : ℕ) → (hex_of c < 16 → ⊥) → (n ≡ 0 → ⊥) → inside end s n v c ≡ follow end (push s v) c
   inside-follow s n v c h some = simp (le-ltb (hex_of c) 16 (omega arith), ne_eqb n 0 some)
-
-  pub begin_other : (s : Gathered) (c : ℕ) → (hex_of c < 16 → ⊥) → inside end s 0 0 c ≡ dead
-  begin_other s c h = simp (le-ltb (hex_of c) 16 (omega arith))

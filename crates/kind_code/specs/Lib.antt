@@ -1,4 +1,3 @@
 pub mod Codes
 pub mod CodeTable
-pub mod CodeLaws
 pub mod States

@@ -1,1 +1,2 @@
 pub mod AddressLaws
+pub mod FamilyLaws

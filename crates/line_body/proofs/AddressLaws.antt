@@ -6,7 +6,7 @@ use Prim.Native.Nat.{ℕ, ◌-◌}
 use lib.ListN.{length, take, drop}
 use Rattle.exact.specs.declared.Scan.{Scan}
 use Rattle.exact.specs.declared.Scan.TheVariants.{Accepted}
-use Rattle.exact.specs.Parser.{tail_all}
+use Rattle.exact.proofs.Parser.{tail_all}
 use Rattle.record.specs.declared.Kind.{Kind}
 use Rattle.record.specs.Kinds.{address_length}
 use Rattle.answer.specs.declared.Caller.{Caller}

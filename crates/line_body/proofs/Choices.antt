@@ -11,7 +11,7 @@ use borrow.Author.Tests.{eq-eqb, ne_eqb, eqb-true, eqb-false}
 use lib.Dec.{eqb}
 use Rattle.exact.specs.Claim.{Verdict, accepted, more, refused, AllBytes}
 use Rattle.exact.specs.Field.{shift, after}
-use Rattle.exact.specs.MachineLaws.{shift-shift}
+use Rattle.exact.proofs.MachineLaws.{shift-shift}
 use Rattle.exact.specs.Pick.{pick}
 use Rattle.exact.specs.Choice.{choose}
 use Rattle.exact.specs.Literal.{literal}

@@ -1,4 +1,3 @@
 pub mod Line
 pub mod LineVerdict
 pub mod LineLeaf
-pub mod LongLine

@@ -1,13 +1,13 @@
 -- For proofs. The leaf of an UNKNOWN line's end: its verdicts are exact.
 use Rattle.std.specs.Prelude.{◌≡◌, refl, Bool, List, [], ◌∷◌, ◌++◌, ◌⊎◌, ◌↔◌, ℕ, suc, ◌+◌, ◌-◌, ◌≤◌, ◌<◌, eqb, leb, ltb, length}
-use Rattle.std.proofs.Common.{sym, ap, ◌∙◌, subst, inl, inr, ⊎_elim, length-append, eqb-true, eq-eqb, ne_eqb, leb-true, leb-false, le-leb, ltb-true, ltb-false, lt-ltb}
+use Rattle.std.proofs.Common.{sym, ap, ◌∙◌, subst, inl, inr, ⊎_elim, length-append, eqb-true, leb-true, leb-false, le-leb, ltb-true, ltb-false}
 use Rattle.std.proofs.Math.Bool.{true, false}
 use native.Mathlib.Omega.{arith}
-use Rattle.std.proofs.lemmas.Bool.{eqb-false, lt-leb}
+use Rattle.std.proofs.lemmas.Bool.{eqb-false}
 use Rattle.exact.specs.Claim.{AllBytes}
 use Rattle.exact.specs.Field.{Least, flat, Exact}
 use Rattle.exact.specs.MachineLaws.{machine_exact, least_at, Sound, Attains, NoLess, Leasts}
-use Rattle.exact.specs.Machine.{leaf, go, done, dead}
+use Rattle.exact.specs.Machine.{leaf, go}
 use Rattle.exact.specs.Pick.{pick, pick_by}
 use Rattle.exact.specs.Parser.{Parser, bytes_append}
 use Rattle.exact.specs.Valueless.{Valueless}
@@ -212,17 +212,3 @@ line_end k m limit room =
       opens = line_least k m limit room;
       bytes = line_bytes limit;
     }
-
--- ── the steps, by the tests that the code makes ──
-pub lf_ends : (is-cr : Bool) (left c : ℕ) → is-cr ≡ true → c ≡ 10 → step_line (line is-cr left) c ≡ done 0
-lf_ends is-cr left c t e = rw t (simp (eq-eqb c 10 e))
-
-pub passes_by : (is-cr : Bool) (left c : ℕ) → (is-cr ≡ true → c ≡ 10 → ⊥) → step_line (line is-cr left) c ≡ pass (eqb c 13) left c
-passes_by true left c other = simp (ne_eqb c 10 (other refl))
-passes_by false left c other = refl
-
-pub pass-go : (is-cr : Bool) (left c : ℕ) → c < 256 → least is-cr ≤ left → pass is-cr left c ≡ go (line is-cr (left - 1))
-pass-go is-cr left c small h = simp (le-leb (least is-cr) left h, lt-ltb c 256 small)
-
-pub pass-dead : (is-cr : Bool) (left c : ℕ) → left < least is-cr → pass is-cr left c ≡ dead
-pass-dead is-cr left c h = simp (lt-leb (least is-cr) left h)

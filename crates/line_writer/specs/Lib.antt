@@ -1,4 +1,2 @@
 pub mod Written
-pub mod LineLaws
 pub mod Demand
-pub mod Lengths

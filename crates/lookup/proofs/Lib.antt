@@ -1,1 +1,6 @@
 pub mod Turn
+pub mod First
+pub mod JoinedLists
+pub mod Joining
+pub mod Laws
+pub mod LookupLemmas

@@ -6,13 +6,15 @@ use native.Mathlib.Omega.{arith}
 use borrow.Author.Tests.{le-ltb, ne_eqb}
 use lib.ListN.{length, get_or, drop, length-append}
 use Rattle.tlv.specs.Tlv.{Tlv, written, Area, WellFormed}
-use Rattle.tlv.specs.Laws.{written-append, area_rest}
-use Rattle.tlv.specs.Heads.{size_at, size_room, head_type, head_size, none_left, some_left}
-use Rattle.tlv.specs.Listed.{few}
-use Rattle.lookup.specs.Lookup.{absent, gave_up, told_lookup, found_at, without, index_of_first, lookup_in, lookup_listed, lookup_refused, LooksUp}
-use Rattle.lookup.specs.JoinedLists.{first_joined}
+use Rattle.tlv.proofs.Laws.{written-append, area_rest}
+use Rattle.tlv.specs.Heads.{size_at}
+use Rattle.tlv.proofs.Heads.{size_room, head_type, head_size, none_left, some_left}
+use Rattle.tlv.proofs.Listed.{few}
+use Rattle.lookup.specs.Lookup.{absent, gave_up, told_lookup, found_at, without, index_of_first, lookup_in, LooksUp}
+use Rattle.lookup.proofs.LookupLemmas.{lookup_listed, lookup_refused}
+use Rattle.lookup.proofs.JoinedLists.{first_joined}
 use Rattle.lookup.specs.Joining.{behind}
-use Rattle.lookup.specs.Laws.{lookup_out, lookup_absent, none_passed, first_counts}
+use Rattle.lookup.proofs.Laws.{lookup_out, lookup_absent, none_passed, first_counts}
 use Rattle.lookup.specs.declared.Answer.{Answer}
 use Rattle.lookup.specs.declared.Answer.TheVariants.{Found, Absent, GaveUp, IllFormed}
 use Rattle.lookup.specs.declared.Examined.{Examined}

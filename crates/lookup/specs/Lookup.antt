@@ -1,9 +1,9 @@
 -- Lookup in a TLV area: document 01, "Looking into TLVs".
 use Rattle.std.specs.Prelude.{◌≡◌, List, [], ◌∷◌, ℕ, zero, suc, ◌+◌, ◌≤◌, eqb, ltb, leb, length, take}
 use Rattle.exact.specs.Pick.{pick}
-use Rattle.tlv.specs.Tlv.{Tlv, written, Area, WellFormed}
-use Rattle.tlv.specs.Listed.{tlvs_of, tlvs_of_lem}
-use Rattle.tlv.specs.Test.{well_formed, well_formed_tested, ill_formed_tested}
+use Rattle.tlv.specs.Tlv.{Tlv, written}
+use Rattle.tlv.specs.Listed.{tlvs_of}
+use Rattle.tlv.specs.Test.{well_formed}
 use Rattle.lookup.specs.declared.Answer.{Answer}
 use Rattle.lookup.specs.declared.Answer.TheVariants.{Found, Absent, GaveUp, IllFormed}
 use Rattle.lookup.specs.declared.Examined.{Examined}
@@ -73,14 +73,6 @@ ill_formed = without (refused 12) 0
 -- what a lookup answers for every area
 abbrev pub lookup_of : List ℕ → ℕ → ℕ → Lookup
 lookup_of area wanted limit = pick (well_formed area) (lookup_in (tlvs_of area) wanted limit) ill_formed
-
--- that is, by the TLVs that fill the area; where none do, 12
-module _ (area : List ℕ) (wanted limit : ℕ) where
-  pub lookup_listed : (tlvs : List Tlv) → Area area tlvs → lookup_of area wanted limit ≡ lookup_in tlvs wanted limit
-  lookup_listed tlvs a = rw ((well_formed_tested area).1 (tlvs, a), tlvs_of_lem area tlvs a)
-
-  pub lookup_refused : (WellFormed area → ⊥) → lookup_of area wanted limit ≡ ill_formed
-  lookup_refused not = rw (ill_formed_tested area not)
 
 -- what `lookup` promises: that answer, and that it "never examines more than the limit"
 pub record LooksUp (area : List ℕ) (wanted limit : ℕ) (r : Examined) : Type 0 where

@@ -1,7 +1,6 @@
 -- A 32-bit number in network order.
-use Rattle.std.specs.Prelude.{◌≡◌, List, [], ◌∷◌, ℕ, ◌+◌, ◌*◌, ◌/◌, ◌%◌, ◌^◌, ◌<◌}
-use Rattle.std.proofs.Common.{ap₂, ◌∙◌, arith}
-use Rattle.exact.specs.Network.{number, number_at}
+use Rattle.std.specs.Prelude.{List, [], ◌∷◌, ℕ, ◌+◌, ◌*◌, ◌/◌, ◌%◌, ◌^◌}
+use Rattle.exact.specs.Network.{number_at}
 
 -- "in network order": high byte first
 abbrev pub network32 : ℕ → List ℕ
@@ -10,13 +9,3 @@ network32 n = n / 2 ^ 24 % 256 ∷ n / 2 ^ 16 % 256 ∷ n / 2 ^ 8 % 256 ∷ n % 
 -- the number of the four bytes at a place; bytes that are missing count as zero
 abbrev pub number32_at : List ℕ → ℕ → ℕ
 number32_at s i = number_at s i * 2 ^ 16 + number_at s (i + 2)
-
--- the number of its bytes is the number
-pub number_network : (n : ℕ) → n < 2 ^ 32 → number32_at (network32 n) 0 ≡ n
-number_network n h =
-    let first : n / 2 ^ 24 ≡ n / 2 ^ 16 / 256 = omega arith in
-    let high : number (n / 2 ^ 24 % 256) (n / 2 ^ 16 % 256) ≡ n / 2 ^ 16 = omega arith in
-    let third : n / 2 ^ 8 % 256 ≡ n % 2 ^ 16 / 256 = omega arith in
-    let low : number (n / 2 ^ 8 % 256) (n % 256) ≡ n % 2 ^ 16 = omega arith in
-    let all : n / 2 ^ 16 * 2 ^ 16 + n % 2 ^ 16 ≡ n = omega arith in
-    ap₂ (λ (x y : ℕ). x * 2 ^ 16 + y) high low ∙ all

@@ -1,5 +1,3 @@
 pub mod Table
 pub mod TableTests
 pub mod TableLaws
-pub mod RowLaws
-pub mod Levels

@@ -1,3 +1,2 @@
 pub mod Profile
-pub mod Order
 pub mod Answers

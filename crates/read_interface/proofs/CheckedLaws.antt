@@ -9,7 +9,8 @@ use lib.Seq.{set-append_seam}
 use Rattle.exact.specs.Claim as Claim
 use Rattle.exact.specs.Claim.{accepted, more, refused}
 use Rattle.exact.specs.Pick.{pick}
-use Rattle.tlv.specs.Test.{well_formed, well_formed_tested}
+use Rattle.tlv.specs.Test.{well_formed}
+use Rattle.tlv.proofs.Test.{well_formed_tested}
 use Rattle.tlv.specs.Listed.{tlvs_of}
 use Rattle.record.specs.declared.Kind.TheVariants.{Unspecified}
 use Rattle.record.specs.declared.Checksum.{Checksum}
@@ -19,14 +20,15 @@ use Rattle.record.specs.Records.{with_checksum, bare}
 use Rattle.kind_code.specs.States.{state_byte}
 use Rattle.header.specs.Header.{Header, Whole}
 use Rattle.fields.specs.Exactness.{verdict}
-use Rattle.fields.specs.Facts.{area_filled, record_plain}
+use Rattle.fields.proofs.Facts.{area_filled, record_plain}
 use Rattle.lent.specs.Buffers.{over, told_in}
-use Rattle.lent.specs.BufferLaws.{roomy, over-over}
+use Rattle.lent.proofs.BufferLaws.{roomy, over-over}
 use Rattle.numbers.specs.Numbers.{numbers_size}
 use Rattle.connection.specs.Connection.{connection_size, connection_bytes}
 use Rattle.checksum.specs.State.{state_in, state_from, by_state, state_on, checked_by, checked_verdict}
 use Rattle.read_interface.specs.ReadInterface.{Spoken, spoken, spoken_checked, room_for, ReadTold}
-use Rattle.read_interface.specs.AcceptedTold.{all_but_state, front_length, connection_length, AcceptedTold, whole, area_told, sized, long_numbers, long_connection}
+use Rattle.read_interface.specs.AcceptedTold.{all_but_state}
+use Rattle.read_interface.proofs.AcceptedTold.{front_length, connection_length, AcceptedTold, whole, area_told, sized, long_numbers, long_connection}
 use Rattle.read_interface.proofs.ReadLaws.{told_as}
 
 module _ (r : Record) (source : length r.source ≡ 108) (destination : length r.destination ≡ 108) where

@@ -20,10 +20,10 @@ use Rattle.answer.specs.declared.Seen.{Seen}
 use Rattle.answer.specs.Sight.{caller_record, in_bytes, record_by, reading_of}
 use Rattle.answer.specs.Answers.{Answers, told_verdict, BareUnless}
 use Rattle.area.specs.Area.{area_by, area_start, area_end}
-use Rattle.area.specs.AreaLaws.{area_inside, area_part}
+use Rattle.area.proofs.AreaLaws.{area_inside, area_part}
 use Rattle.numbers.specs.declared.Told.{Told}
 use Rattle.lent.specs.Buffers.{over, told_in}
-use Rattle.lent.specs.BufferLaws.{roomy}
+use Rattle.lent.proofs.BufferLaws.{roomy}
 use Rattle.numbers.specs.Numbers.{numbers_size, told_of}
 use Rattle.connection.specs.Connection.{connection_size, connection_bytes}
 use Rattle.read_interface.specs.ReadInterface.{Spoken, spoken, room_for, ReadTold}

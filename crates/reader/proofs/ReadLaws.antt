@@ -11,10 +11,11 @@ use Rattle.exact.specs.Pick.{pick}
 use Rattle.header.specs.Header.{Header}
 use Rattle.header.specs.Demand.{Judges}
 use Rattle.fields.specs.BlockFields.{block}
-use Rattle.fields.specs.Exactness.{is_p, line_field, verdict, judges}
+use Rattle.fields.specs.Exactness.{is_p, line_field, verdict}
+use Rattle.fields.proofs.Exactness.{judges}
 use Rattle.answer.specs.declared.Seen.{Seen}
 use Rattle.answer.specs.Sight.{reading_of, caller_by, Sees}
-use Rattle.answer.specs.StageLaws.{sees_as}
+use Rattle.answer.proofs.StageLaws.{sees_as}
 use Rattle.reader.specs.Read.{Reads}
 
 pub reads_as : {s : List ℕ} {v : Verdict Header} {x : Seen} → Sees s v x → v ≡ verdict s → Reads s (reading_of s x) × (x.caller ≡ caller_by (verdict s))

@@ -1,1 +1,4 @@
 pub mod InMemory
+pub mod HeldLaws
+pub mod RecordLaws
+pub mod Table

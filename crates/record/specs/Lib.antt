@@ -3,5 +3,4 @@ pub mod KnownFamily
 pub mod Tabulated
 pub mod Table
 pub mod Records
-pub mod RecordLaws
 pub mod HeldLaws

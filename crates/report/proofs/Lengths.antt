@@ -11,7 +11,7 @@ use Rattle.answer.specs.declared.Refusal.TheVariants.{Start, Word, Address, Port
 use Rattle.answer.specs.declared.Verdict.TheVariants.{Accepted, Refused}
 use Rattle.answer.specs.Answers.{number_of}
 use Rattle.draft.specs.Numeral.{decimal_text}
-use Rattle.draft.specs.NumeralLaws.{numeral-length}
+use Rattle.draft.proofs.NumeralLaws.{numeral-length}
 use Rattle.report.specs.Line.{line_of}
 
 kind_length : (k : Kind) → length (kind_word k) ≤ 13

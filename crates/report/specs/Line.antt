@@ -1,15 +1,13 @@
 -- The program's line (document 01, "The program").
-use Rattle.std.specs.Prelude.{◌≡◌, refl, List, ◌++◌, ℕ}
+use Rattle.std.specs.Prelude.{List, ◌++◌, ℕ}
 use Rattle.exact.specs.Ascii.{ascii}
-use Rattle.record.specs.declared.Transport.TheVariants.{Stream}
 use Rattle.record.specs.declared.Kind.{Kind}
-use Rattle.record.specs.declared.Kind.TheVariants.{Ip4}
 use Rattle.record.specs.Kinds.{kind_word}
 use Rattle.answer.specs.declared.Verdict.{Verdict}
 use Rattle.answer.specs.declared.Verdict.TheVariants.{Accepted, More, Refused}
 use Rattle.answer.specs.declared.Reading.{Reading}
 use Rattle.answer.specs.Answers.{number_of}
-use Rattle.draft.specs.Numeral.{numeral, decimal_text}
+use Rattle.draft.specs.Numeral.{decimal_text}
 
 -- "one line ending in LF: `more`, `refused 3 at 13`, or `accepted 47 ip4-stream`"
 abbrev pub line_of : Verdict → Kind → List ℕ
@@ -19,8 +17,3 @@ line_of (Refused refusal place) kind = ascii "refused " ++ decimal_text (number_
 
 abbrev pub answer_line : Reading → List ℕ
 answer_line r = line_of r.verdict r.record.kind
-
--- "Case W02 gives exactly `accepted 47 ip4-stream`"
-pub w02 : line_of (Accepted 47 1) (Ip4 Stream) ≡ ascii "accepted 47 ip4-stream\n"
-unfolding numeral
-w02 = refl

@@ -9,8 +9,8 @@ use lib.ListN.{length, take, drop, get_or, length-take, length-drop}
 use borrow.Author.Tests.{eq-eqb, ne_eqb}
 use Rattle.exact.specs.Pick.{pick}
 use Rattle.lent.specs.Placed.{placed}
-use Rattle.lent.specs.PlacedLaws.{placed_front}
-use Rattle.lent.specs.BufferLaws.{over_all}
+use Rattle.lent.proofs.PlacedLaws.{placed_front}
+use Rattle.lent.proofs.BufferLaws.{over_all}
 use Rattle.kind_code.specs.Codes.{kind_of}
 use Rattle.request.specs.Request.{refused_with, by_kind, request}
 use Rattle.connection.specs.Connection.{connection_size}

@@ -1,2 +1,4 @@
 pub mod NoteLaws
 pub mod Turn
+pub mod Laws
+pub mod Noted

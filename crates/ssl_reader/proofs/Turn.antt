@@ -11,14 +11,16 @@ use lib.ListN.{length, get_or, drop, replicate, length-append, drop_of_length-le
 use Rattle.exact.specs.Claim.{AllBytes}
 use Rattle.exact.specs.Pick.{pick, never}
 use Rattle.tlv.specs.Tlv.{Tlv, tlv_bytes, written, Area, WellFormed}
-use Rattle.tlv.specs.Laws.{area_append}
-use Rattle.tlv.specs.Heads.{size_at, size_room, tlv_at, tlv_size, tlv_area, tlv_split}
+use Rattle.tlv.proofs.Laws.{area_append}
+use Rattle.tlv.specs.Heads.{size_at, tlv_at}
+use Rattle.tlv.proofs.Heads.{size_room, tlv_size, tlv_area, tlv_split}
 use Rattle.tlv_step.specs.Step.{Step, shown, end, refused, head_at}
-use Rattle.tlv_step.specs.Facts.{head_due}
-use Rattle.lookup.specs.Joining.{join_ill_formed}
+use Rattle.tlv_step.proofs.Facts.{head_due}
+use Rattle.lookup.proofs.Joining.{join_ill_formed}
 use Rattle.ssl_reader.specs.Ssl.{Part, Said, accepted, part_of, parts_of, nothing, is_absent, lacks_version, client_of, verify_of, said_by, said_in}
-use Rattle.ssl_reader.specs.Laws.{said_listed, said_ill}
-use Rattle.ssl_reader.specs.Noted.{found_part, found_parts, noted, parts_noted}
+use Rattle.ssl_reader.proofs.Laws.{said_listed, said_ill}
+use Rattle.ssl_reader.specs.Noted.{found_part, found_parts, noted}
+use Rattle.ssl_reader.proofs.Noted.{parts_noted}
 use Rattle.ssl_reader.proofs.NoteLaws.{place, found_at}
 
 -- the sub-TLVs up to a place, and what was found of them

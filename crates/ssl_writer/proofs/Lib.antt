@@ -1,1 +1,3 @@
 pub mod PutLaws
+pub mod Again
+pub mod ReadBack

@@ -10,7 +10,7 @@ use lib.ListN.{length, length-append}
 use Rattle.exact.specs.Claim.{AllBytes}
 use Rattle.exact.specs.Pick.{pick}
 use Rattle.lent.specs.Placed.{placed}
-use Rattle.lent.specs.PlacedLaws.{placed_then, placed-length}
+use Rattle.lent.proofs.PlacedLaws.{placed_then, placed-length}
 use Rattle.tlv.specs.Tlv.{tlv_bytes, written}
 use Rattle.answer.specs.Answers.{refuses, sized_answer}
 use Rattle.ssl_reader.specs.Ssl.{is_absent, lacks_version}

@@ -1,12 +1,11 @@
 -- What moving stored bytes from one version to the other answers and writes (document 02, K7: "moving forward", "moving back"); in code it is a conversion.
-use Rattle.std.specs.Prelude.{◌≡◌, refl, List, ◌∷◌, ◌++◌, ℕ, ◌≤◌, length, take, drop, get_or}
+use Rattle.std.specs.Prelude.{◌≡◌, List, ◌∷◌, ◌++◌, ℕ, ◌≤◌, length, take, drop, get_or}
 use Rattle.std.proofs.Math.Option.{Option, some, none}
 use Rattle.record.specs.declared.Checksum.{Checksum}
 use Rattle.record.specs.declared.Checksum.TheVariants.{Absent}
 use Rattle.record.specs.declared.Record.{Record}
 use Rattle.answer.specs.Answers.{WriteAnswer, wrote, refuses, told_written, output_after}
 use Rattle.stored_form.specs.declared.StoredVersion.{StoredVersion}
-use Rattle.stored_form.specs.declared.StoredVersion.TheVariants.{One, Two}
 use Rattle.stored_form.specs.declared.Converted.{Converted}
 use Rattle.stored_form.specs.declared.Converted.TheVariants.{Stored, Invalid}
 use Rattle.stored_form.specs.Heads.{mark, version_bytes, state_bytes, head_length, state_in}
@@ -21,16 +20,6 @@ state_said none = Absent
 -- the bytes in a version: the mark, its version bytes, the kind code, the state where the version has one, and the address block as it stands
 unfoldable pub converted : (from to : StoredVersion) → List ℕ → List ℕ
 converted from to s = mark ++ version_bytes to ++ get_or s 5 0 ∷ state_bytes to (state_said (state_in from s)) ++ drop (head_length from) s
-
--- "Moving forward sets absent": a zero is put behind the kind code
-pub forward_bytes : (s : List ℕ) → converted One Two s ≡ mark ++ 0x00 ∷ 0x02 ∷ get_or s 5 0 ∷ 0x00 ∷ drop 6 s
-unfolding converted
-forward_bytes s = refl
-
--- and moving back leaves the state out
-pub back_bytes : (s : List ℕ) → converted Two One s ≡ mark ++ 0x00 ∷ 0x01 ∷ get_or s 5 0 ∷ drop 7 s
-unfolding converted
-back_bytes s = refl
 
 -- "An invalid input first gives its reader's number, a wrong length included"; "Moving back answers 24 and writes nothing when the state is matched";
 -- "a short output gives 14, last"

@@ -1,10 +1,6 @@
 pub mod Heads
-pub mod HeadLaws
 pub mod Stored
 pub mod Loading
 pub mod Meaning
-pub mod LoadLaws
-pub mod RoundTrip
 pub mod Converting
-pub mod Moving
 pub mod Table

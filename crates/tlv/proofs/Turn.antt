@@ -9,7 +9,7 @@ use lib.Dec.{leb}
 use lib.ListN.{length, get_or, drop}
 use Rattle.exact.specs.Claim.{Verdict, accepted, more, refused}
 use Rattle.exact.specs.Field.{shift}
-use Rattle.exact.specs.MachineLaws.{shift_zero, from_end, from-go, from-done, from-dead}
+use Rattle.exact.proofs.MachineLaws.{shift_zero, from_end, from-go, from-done, from-dead}
 use Rattle.exact.specs.Machine.{from}
 use Rattle.exact.specs.Pick.{pick, pick_by}
 use Rattle.exact.specs.Network.{number}

@@ -13,7 +13,7 @@ use Rattle.tlv.specs.Tlv.{Filled}
 use Rattle.tlv.specs.Laws.{area_bytes}
 use Rattle.tlv.specs.Room.{Fillable, Good, Behind, head_open, head_shut, retype, high_byte_lem, good_leaves, some_low}
 use Rattle.tlv.specs.Rules.{fill_rule, low_rule}
-use Rattle.tlv.specs.RegionVerdict.{Due, type_byte, high_byte, low_byte, value_byte, enter, good, step_byte, step, least_region, judge}
+use Rattle.tlv.specs.RegionVerdict.{Due, type_byte, high_byte, low_byte, value_byte, enter, good, step_byte, step, least_region}
 
 -- what may follow in a state
 abbrev Follows : Due → List ℕ → Type 0
@@ -58,7 +58,7 @@ pub no_bytes : (f : List ℕ) → length f ≡ 0 → f ≡ []
 no_bytes [] e = refl
 no_bytes (x ∷ f) e = absurd (omega arith)
 
-some_bytes : (n : ℕ) → Fillable (suc n) → 3 ≤ suc n
+pub some_bytes : (n : ℕ) → Fillable (suc n) → 3 ≤ suc n
 some_bytes n = ⊎_elim (λ e. absurd (omega arith)) (λ h. h)
 
 module _ (q : Due) (c : ℕ) where
@@ -184,15 +184,3 @@ region k m n ok =
       opens = region_least k m n (inr ok);
       bytes = λ f a l. area_bytes f l.0.1;
     }
-
-pub judge_exact : (k m n : ℕ) → Fillable n → (s : List ℕ) → Exact (leaf k (Region n)) (flat m) (judge k m n s) s
-judge_exact k m zero ok s =
-    record {
-      front = [];
-      rest = s;
-      split = refl;
-      size = refl;
-      whole = ((refl, ([], (refl, tt))), refl);
-      only = λ x y g b e l. (no_bytes g l.0.0, l.1);
-    }
-judge_exact k m (suc n) ok s = region_exact k m (suc n) (some_bytes n ok) s

@@ -1,8 +1,8 @@
 -- Which bytes can begin an area of a given length: document 01, "The binary block".
-use Rattle.std.specs.Prelude.{◌≡◌, [], ◌∷◌, ◌⊎◌, ◌↔◌, ℕ, ◌+◌, ◌*◌, ◌-◌, ◌≤◌, ◌<◌}
+use Rattle.std.specs.Prelude.{◌≡◌, [], ◌∷◌, ◌⊎◌, ◌↔◌, ℕ, ◌+◌, ◌-◌, ◌≤◌, ◌<◌}
 use Rattle.exact.specs.Network.{number}
 use Rattle.tlv.specs.Tlv.{Completes}
-use Rattle.tlv.specs.Room.{fill, filled_fillable, behind_fill, behind_fillable, head_open, head_shut, high_byte_lem, good_leaves, leaves_good, some_low}
+use Rattle.tlv.specs.Room.{fill, filled_fillable, behind_fill, behind_fillable, head_open, head_shut, good_leaves, leaves_good}
 
 -- "L must be A, or at least A + 3": what TLVs can fill is nothing, or at least three bytes
 pub fill_rule : (n : ℕ) → Completes n [] ↔ ((n ≡ 0) ⊎ (3 ≤ n))
@@ -19,14 +19,4 @@ low_rule t h l room type high low = (
       let a = good_leaves (number h l) room g in
       let r = behind_fill (number h l) (room - (number h l)) a.1 in
       (r.0, head_shut t h l room r.0 (record { type = type; high = high; low = low; within = a.0; behind = r.1 })),
-)
-
--- "its high length byte h is dead exactly if 256 × h exceeds R"
-pub high_rule : (t h room : ℕ) → t < 256 → h < 256 → Completes (3 + room) (t ∷ h ∷ []) ↔ (256 * h ≤ room)
-high_rule t h room type high = (
-  λ c. (high_byte_lem t h room c.0 c.1).1,
-  λ g.
-      let l = some_low h room g in
-      let c = (low_rule t h l.0 room type high l.1).1 l.2 in
-      (l.0 ∷ c.0, c.1),
 )

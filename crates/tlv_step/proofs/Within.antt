@@ -5,7 +5,7 @@ use Prim.Native.Nat.{ℕ, ◌+◌, ◌≤◌, ◌<◌}
 use borrow.Author.Tests.{le-leb, lt-leb}
 use lib.ListN.{length}
 use Rattle.tlv_step.specs.Step.{Step, end, told_step, step_at, start_of, length_of, within}
-use Rattle.tlv_step.specs.Facts.{step_room}
+use Rattle.tlv_step.proofs.Facts.{step_room}
 use Rattle.tlv_step.specs.declared.Shown.{Shown}
 
 module _ (s : List ℕ) where

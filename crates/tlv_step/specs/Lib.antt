@@ -1,4 +1,2 @@
 pub mod Step
 pub mod Walk
-pub mod Facts
-pub mod Laws

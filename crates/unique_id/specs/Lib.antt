@@ -1,2 +1,1 @@
 pub mod UniqueId
-pub mod IdLaws

@@ -8,7 +8,7 @@ use lib.Seq.{drop-cons}
 use Rattle.exact.specs.Pick.{pick}
 use Rattle.zero_run.specs.declared.Run.{Run}
 use Rattle.zero_run.specs.ZeroRun.{zeros_ahead, run_ahead, onward, is_longer, longest_run}
-use Rattle.zero_run.specs.Longest.{longer_by}
+use Rattle.zero_run.proofs.Longest.{longer_by}
 
 not_ahead : (g : ℕ) (groups : List ℕ) → (g ≡ 0 → ⊥) → zeros_ahead (g ∷ groups) ≡ 0
 not_ahead zero groups other = absurd (other refl)

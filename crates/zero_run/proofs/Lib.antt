@@ -1,1 +1,3 @@
 pub mod Behind
+pub mod Longest
+pub mod RunLaws

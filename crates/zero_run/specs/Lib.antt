@@ -1,3 +1,2 @@
 pub mod ZeroRun
 pub mod Longest
-pub mod RunLaws

@@ -10,8 +10,8 @@ use lib.Dec.{eqb}
 use lib.ListN.{get_or}
 use lib.Pow.{shl_exact}
 use Rattle.exact.specs.Pick.{never}
-use Rattle.address_bits.specs.BitTests.{clear_tested}
-use Rattle.address_bits.specs.BitLaws.{as_tested, power, bytes_clear, clear_end, clear_behind}
+use Rattle.address_bits.proofs.BitTests.{clear_tested}
+use Rattle.address_bits.proofs.BitLaws.{as_tested, power, bytes_clear, clear_end, clear_behind}
 use Rattle.address_bits.proofs.clear_bits.Statement.{statement}
 use Rattle.address_bits.proofs.clear_bits.Tie as tie
 

@@ -9,8 +9,8 @@ use borrow.Author.Tests.{eqb-true, eqb-false, eq-eqb}
 use lib.Dec.{eqb}
 use lib.ListN.{get_or}
 use Rattle.exact.specs.Pick.{never}
-use Rattle.address_bits.specs.BitTests.{same_tested}
-use Rattle.address_bits.specs.BitLaws.{as_tested, bytes_same, same_whole, same_end}
+use Rattle.address_bits.proofs.BitTests.{same_tested}
+use Rattle.address_bits.proofs.BitLaws.{as_tested, bytes_same, same_whole, same_end}
 use Rattle.address_bits.proofs.same_bits.Statement.{statement}
 use Rattle.address_bits.proofs.same_bits.Tie as tie
 

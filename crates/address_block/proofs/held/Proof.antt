@@ -5,8 +5,9 @@ use native.Mathlib.Omega.{arith}
 use lib.ListN.{length}
 use lib.Seq.{paste, paste-zero}
 use Rattle.record.specs.Records.{held}
-use Rattle.record.specs.HeldLaws.{blank, held_pasted, pasted_next}
-use Rattle.lent.specs.PartLaws.{take_least}
+use Rattle.record.specs.HeldLaws.{blank}
+use Rattle.record.proofs.HeldLaws.{held_pasted, pasted_next}
+use Rattle.lent.proofs.PartLaws.{take_least}
 use Rattle.address_block.proofs.held.Statement.{statement}
 use Rattle.address_block.proofs.held.Tie as tie
 

@@ -3,8 +3,8 @@ use mathlib.Core.Path.{refl, ap, ◌∙◌}
 use Prim.Native.Nat.{ℕ, ◌≤◌}
 use lib.ListN.{take}
 use Rattle.record.specs.Records.{held}
-use Rattle.record.specs.RecordLaws.{same_record}
-use Rattle.address_block.specs.AddressBlockLaws.{address_fits}
+use Rattle.record.proofs.RecordLaws.{same_record}
+use Rattle.address_block.proofs.AddressBlockLaws.{address_fits}
 use borrow.Author.Rules.{rules}
 use Rattle.address_block.proofs.record_from.Statement.{statement}
 use Rattle.address_block.proofs.record_from.Tie as tie

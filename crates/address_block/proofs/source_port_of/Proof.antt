@@ -3,7 +3,7 @@ use mathlib.Core.Path.{ap, ◌∙◌}
 use Prim.Native.Nat.{ℕ, ◌+◌, ◌≤◌}
 use native.Mathlib.Omega.{arith}
 use Rattle.address_block.specs.AddressBlock.{port_at}
-use Rattle.address_block.specs.AddressBlockLaws.{address_fits}
+use Rattle.address_block.proofs.AddressBlockLaws.{address_fits}
 use borrow.Author.Rules.{rules}
 use Rattle.address_block.proofs.source_port_of.Statement.{statement}
 use Rattle.address_block.proofs.source_port_of.Tie as tie

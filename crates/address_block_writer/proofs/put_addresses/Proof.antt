@@ -13,9 +13,9 @@ use Rattle.record.specs.Records.{Sized}
 use Rattle.record.proofs.InMemory.{in_memory}
 use Rattle.record.specs.Kinds.{address_length, port_length, block_length}
 use Rattle.address_block.specs.AddressBlock.{address_block}
-use Rattle.address_block.specs.AddressBlockLaws.{address_fits, address_size, port_size, block_size}
+use Rattle.address_block.proofs.AddressBlockLaws.{address_fits, address_size, port_size, block_size}
 use Rattle.lent.specs.Placed.{placed}
-use Rattle.lent.specs.PlacedLaws.{placed_else, placed_then}
+use Rattle.lent.proofs.PlacedLaws.{placed_else, placed_then}
 use Rattle.address_block_writer.proofs.put_addresses.Statement.{statement}
 use Rattle.address_block_writer.proofs.put_addresses.Tie as tie
 

@@ -5,7 +5,7 @@ use borrow.Author.Rules.{rules}
 use lib.ListN.{take}
 use lib.Seq.{length-take-le}
 use Rattle.exact.specs.Network.{network}
-use Rattle.address_block.specs.AddressBlockLaws.{port_fits}
+use Rattle.address_block.proofs.AddressBlockLaws.{port_fits}
 use Rattle.lent.specs.Placed.{placed}
 use Rattle.address_block_writer.proofs.put_port.Statement.{statement}
 use Rattle.address_block_writer.proofs.put_port.Tie as tie

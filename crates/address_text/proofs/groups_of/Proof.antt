@@ -6,7 +6,7 @@ use lib.ListN.{length, take, replicate, get_or}
 use lib.Seq.{length-take-le, get_or-take}
 use Rattle.exact.specs.Network.{number}
 use Rattle.address_text.specs.Addresses.{groups_of}
-use Rattle.address_text.specs.AddressLaws.{groups_count, groups_at}
+use Rattle.address_text.proofs.AddressLaws.{groups_count, groups_at}
 use Rattle.address_text.proofs.Copies.{over, over_next, over_all}
 use Rattle.address_text.proofs.groups_of.Statement.{statement}
 use Rattle.address_text.proofs.groups_of.Tie as tie

@@ -1,7 +1,7 @@
 -- `octets_of` takes the first four bytes, each by `wide`.
 use native.Mathlib.Omega.{arith}
 use borrow.Author.Rules.{rules}
-use Rattle.address_text.specs.AddressLaws.{four}
+use Rattle.address_text.proofs.AddressLaws.{four}
 use Rattle.address_text.proofs.octets_of.Statement.{statement}
 use Rattle.address_text.proofs.octets_of.Tie as tie
 

@@ -7,13 +7,14 @@ use lib.ListN.{take, drop, length-take, length-drop}
 use lib.Seq.{take_all}
 use borrow.Author.Rules.{rules}
 use Rattle.draft.specs.Drafts.{drafted, appended}
-use Rattle.draft.specs.DraftLaws.{appended_more}
+use Rattle.draft.proofs.DraftLaws.{appended_more}
 use Rattle.zero_run.specs.declared.Run.{Run}
 use Rattle.zero_run.specs.ZeroRun.{longest_run}
-use Rattle.zero_run.specs.Longest.{Zeros, longest}
-use Rattle.zero_run.specs.RunLaws.{run_inside}
+use Rattle.zero_run.specs.Longest.{Zeros}
+use Rattle.zero_run.proofs.Longest.{longest}
+use Rattle.zero_run.proofs.RunLaws.{run_inside}
 use Rattle.address_text.specs.Addresses.{shortened_text, groups_text}
-use Rattle.address_text.specs.AddressLaws.{text_shortened, text_full}
+use Rattle.address_text.proofs.AddressLaws.{text_shortened, text_full}
 use Rattle.address_text.proofs.push_groups.Statement.{statement}
 use Rattle.address_text.proofs.push_groups.Tie as tie
 

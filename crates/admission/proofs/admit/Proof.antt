@@ -22,10 +22,10 @@ use Rattle.answer.specs.declared.Reading.{Reading}
 use Rattle.answer.specs.Answers.{told_verdict, block_area, area_of}
 use Rattle.prefix_table.specs.Table.{rows_of, Good}
 use Rattle.prefix_table.specs.TableTests.{good_table}
-use Rattle.prefix_table.specs.TableLaws.{table_tested}
+use Rattle.prefix_table.proofs.TableLaws.{table_tested}
 use Rattle.profile.specs.Profile.{Admission, denied, origin_of, by_origin, by_version, source_level}
 use Rattle.admission.specs.Admits.{Admits, admission_by, admission}
-use Rattle.admission.specs.Demand.{by_good, admits}
+use Rattle.admission.proofs.Demand.{by_good, admits}
 use Rattle.admission.proofs.admit.Statement.{statement}
 use Rattle.admission.proofs.admit.Tie as tie
 

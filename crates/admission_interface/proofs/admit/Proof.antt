@@ -7,14 +7,14 @@ use native.Mathlib.Omega.{arith}
 use borrow.Author.Rules.{rules}
 use borrow.Author.Tests.{not-true, not-false}
 use lib.ListN.{length, take, drop, get_or}
-use Rattle.lent.specs.BufferLaws.{roomy, cramped}
+use Rattle.lent.proofs.BufferLaws.{roomy, cramped}
 use Rattle.fields.specs.Exactness.{verdict}
 use Rattle.read_interface.specs.ReadInterface.{spoken, ReadTold}
-use Rattle.read_interface.specs.AcceptedTold.{AcceptedTold, accepted_told}
+use Rattle.read_interface.proofs.AcceptedTold.{AcceptedTold, accepted_told}
 use Rattle.record.specs.declared.Kind.{Kind}
 use Rattle.prefix_table.specs.Table.{rows_of, Good}
 use Rattle.prefix_table.specs.TableTests.{good_table}
-use Rattle.prefix_table.specs.TableLaws.{table_tested}
+use Rattle.prefix_table.proofs.TableLaws.{table_tested}
 use Rattle.profile.specs.Profile.{Admission, denied, origin_of, by_version, source_level}
 use Rattle.admission.specs.Admits.{admission}
 use Rattle.admission_interface.specs.AdmissionInterface.{told_admission, AdmissionTold}

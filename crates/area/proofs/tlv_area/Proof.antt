@@ -3,7 +3,7 @@ use mathlib.Core.Path.{refl, ap₂, ◌∙◌}
 use Prim.Native.Nat.{ℕ, ◌-◌}
 use native.Mathlib.Omega.{arith}
 use lib.ListN.{length, take, drop}
-use Rattle.area.specs.AreaLaws.{area_inside, area_part}
+use Rattle.area.proofs.AreaLaws.{area_inside, area_part}
 use borrow.Author.Rules.{rules}
 use Rattle.area.proofs.tlv_area.Statement.{statement}
 use Rattle.area.proofs.tlv_area.Tie as tie

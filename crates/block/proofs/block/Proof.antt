@@ -7,14 +7,14 @@ use borrow.Author.Rules.{rules}
 use lib.ListN.{length, drop}
 use Rattle.exact.specs.Claim.{Verdict, accepted, more, refused}
 use Rattle.exact.specs.Field.{Exact, shift, flat}
-use Rattle.exact.specs.LiteralLaws.{literal_few}
-use Rattle.exact.specs.Verdicts.{few_count}
+use Rattle.exact.proofs.LiteralLaws.{literal_few}
+use Rattle.exact.proofs.Verdicts.{few_count}
 use Rattle.exact.specs.Scans.{told}
 use Rattle.exact.specs.declared.Scan.{Scan}
 use Rattle.header.specs.Block.{signature}
 use Rattle.fields.specs.LineFields.{Headers}
 use Rattle.fields.specs.BlockFields.{signature_field, from_command}
-use Rattle.answer.specs.StageLaws.{sees_as, as_first}
+use Rattle.answer.proofs.StageLaws.{sees_as, as_first}
 use Rattle.block.proofs.block.Statement.{statement}
 use Rattle.block.proofs.block.Tie as tie
 

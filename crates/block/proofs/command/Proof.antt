@@ -10,7 +10,7 @@ use lib.ListN.{length, drop, get_or, length-drop}
 use lib.Seq.{get_or-drop}
 use Rattle.exact.specs.Claim.{AllBytes}
 use Rattle.fields.specs.BlockFields.{local, proxy, command_of, command, command_rest, from_command}
-use Rattle.answer.specs.StageLaws.{as_end, as_refused, as_accepted}
+use Rattle.answer.proofs.StageLaws.{as_end, as_refused, as_accepted}
 use Rattle.block_body.proofs.Takes.{bytes_of, bytes_drop}
 use Rattle.block_body.proofs.Leaves.{byte_full}
 use Rattle.block.proofs.command.Statement.{statement}

@@ -8,7 +8,7 @@ use lib.ListN.{length, drop, get_or, length-drop}
 use Rattle.record.specs.declared.Kind.TheVariants.{Local}
 use Rattle.record.specs.Records.{bare}
 use Rattle.fields.specs.BlockFields.{local, command_rest, any_byte, skipped}
-use Rattle.answer.specs.StageLaws.{as_end, as_accepted}
+use Rattle.answer.proofs.StageLaws.{as_end, as_accepted}
 use Rattle.block_body.proofs.Takes.{bytes_of, bytes_drop}
 use Rattle.block_body.proofs.Leaves.{any_full}
 use Rattle.block.proofs.local.Statement.{statement}

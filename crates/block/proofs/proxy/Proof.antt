@@ -9,7 +9,7 @@ use lib.Seq.{get_or-drop}
 use Rattle.exact.specs.Claim.{AllBytes}
 use Rattle.record.specs.Kinds.{family}
 use Rattle.fields.specs.BlockFields.{family_field, family_rest, from_family}
-use Rattle.answer.specs.StageLaws.{as_end, as_refused, as_accepted}
+use Rattle.answer.proofs.StageLaws.{as_end, as_refused, as_accepted}
 use Rattle.record.specs.declared.Family.{Family}
 use Rattle.record.specs.KnownFamily.{told_family}
 use Rattle.block_body.proofs.Takes.{bytes_of, bytes_drop}

@@ -12,7 +12,7 @@ use Rattle.record.specs.declared.Kind.{Kind}
 use Rattle.record.specs.Kinds.{block_length}
 use Rattle.fields.specs.Lengths.{fits, fits_least, lowest-fits}
 use Rattle.fields.specs.BlockFields.{block_length_field, block_small, block_length_byte, addresses}
-use Rattle.answer.specs.StageLaws.{sees_as, as_refused, as_accepted}
+use Rattle.answer.proofs.StageLaws.{sees_as, as_refused, as_accepted}
 use Rattle.block_body.proofs.Parts.{number_at_lem}
 use Rattle.block_body.proofs.Takes.{bytes_of, bytes_drop}
 use Rattle.block_body.proofs.Leaves.{number_full}

@@ -7,7 +7,7 @@ use lib.ListN.{drop}
 use Rattle.exact.specs.Claim.{Verdict}
 use Rattle.exact.specs.Field.{shift}
 use Rattle.header.specs.Header.{Header}
-use Rattle.answer.specs.StageLaws.{sees_as}
+use Rattle.answer.proofs.StageLaws.{sees_as}
 use Rattle.block_body.proofs.KindLaws.{bare_kind, block_kind}
 use Rattle.block_body.proofs.from_length.Statement.{statement}
 use Rattle.block_body.proofs.from_length.Tie as tie

@@ -12,7 +12,7 @@ use Rattle.record.specs.declared.Kind.{Kind}
 use Rattle.record.specs.Records.{bare}
 use Rattle.address_block.specs.AddressBlock.{block_record}
 use Rattle.fields.specs.BlockFields.{blocked}
-use Rattle.answer.specs.StageLaws.{sees_as}
+use Rattle.answer.proofs.StageLaws.{sees_as}
 use Rattle.block_body.proofs.Takes.{bytes_of}
 use Rattle.block_body.proofs.KindLaws.{bare_kind}
 use Rattle.block_body.proofs.AcceptedLaws.{as_block}

@@ -5,7 +5,8 @@ use mathlib.Core.Bool.{Bool, true}
 use mathlib.Core.List.{List}
 use borrow.Author.Rules.{rules}
 use Rattle.tlv.specs.Tlv.{WellFormed}
-use Rattle.tlv.specs.Test.{well_formed, tested_is}
+use Rattle.tlv.specs.Test.{well_formed}
+use Rattle.tlv.proofs.Test.{tested_is}
 use Rattle.block_writer.proofs.area_fits.Statement.{statement}
 use Rattle.block_writer.proofs.area_fits.Tie as tie
 

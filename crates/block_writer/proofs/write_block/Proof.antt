@@ -9,14 +9,16 @@ use lib.ListN.{length, drop}
 use Rattle.record.specs.declared.Record.{Record}
 use Rattle.record.specs.Kinds.{block_length}
 use Rattle.record.specs.Records.{Sized}
-use Rattle.lent.specs.PlacedLaws.{placed_start}
+use Rattle.lent.proofs.PlacedLaws.{placed_start}
 use Rattle.record.proofs.InMemory.{in_memory}
 use Rattle.answer.specs.Answers.{WriteAnswer, wrote, output_after}
-use Rattle.answer.specs.OutputLaws.{output_refused, is_wrote, output_written, Promised, promised}
+use Rattle.answer.proofs.OutputLaws.{output_refused, is_wrote, output_written, promised}
+use Rattle.answer.specs.OutputLaws.{Promised}
 use Rattle.head_writer.specs.Head.{head_of}
 use Rattle.block_writer.specs.Written.{block_of, written_block, CarriedByBlock, block_answer, block_placed}
 use Rattle.block_writer.proofs.WrittenLaws.{block_length_lem, block_placed_lem}
-use Rattle.block_writer.specs.Demand.{Means, answer_means, block_accepted, ReadsBack, reads_back}
+use Rattle.block_writer.specs.Demand.{Means, ReadsBack}
+use Rattle.block_writer.proofs.Demand.{answer_means, block_accepted, reads_back}
 use Rattle.block_writer.proofs.write_block.Statement.{statement}
 use Rattle.block_writer.proofs.write_block.Tie as tie
 

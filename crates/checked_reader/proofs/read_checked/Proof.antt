@@ -20,7 +20,7 @@ use Rattle.answer.specs.Answers.{told_verdict, BareUnless}
 use Rattle.reader.specs.Read.{Reads}
 use Rattle.checksum.specs.Checked.{judged, refuses, Checks}
 use Rattle.checksum.specs.State.{state_from, state_on, checked_by, checked_verdict}
-use Rattle.checksum.specs.Demand.{checks}
+use Rattle.checksum.proofs.Demand.{checks}
 use Rattle.checked_reader.specs.declared.Check.{Check}
 use Rattle.checked_reader.specs.declared.CheckedVerdict.TheVariants.{Judged, WrongChecksum}
 use Rattle.checked_reader.specs.declared.CheckedReading.{CheckedReading}

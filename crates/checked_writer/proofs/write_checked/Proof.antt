@@ -12,10 +12,12 @@ use Rattle.record.specs.Records.{Sized}
 use Rattle.record.proofs.InMemory.{in_memory}
 use Rattle.crc.specs.Crc.{checksum, stored}
 use Rattle.answer.specs.Answers.{WriteAnswer, wrote, output_after}
-use Rattle.answer.specs.OutputLaws.{output_refused, is_wrote, output_written, Promised, promised}
+use Rattle.answer.proofs.OutputLaws.{output_refused, is_wrote, output_written, promised}
+use Rattle.answer.specs.OutputLaws.{Promised}
 use Rattle.block_writer.specs.Written.{written_block}
 use Rattle.checked_writer.specs.Written.{with_tlv, checksum_for, written_checked, CarriedChecked, checked_answer}
-use Rattle.checked_writer.specs.Demand.{Means, answer_means, checked_accepted, ReadsBack, reads_back}
+use Rattle.checked_writer.specs.Demand.{Means, ReadsBack}
+use Rattle.checked_writer.proofs.Demand.{answer_means, checked_accepted, reads_back}
 use Rattle.checked_writer.proofs.PutLaws.{tlv_length, header_length, zeros_front, with_sum}
 use Rattle.checked_writer.proofs.write_checked.Statement.{statement}
 use Rattle.checked_writer.proofs.write_checked.Tie as tie

@@ -7,7 +7,7 @@ use lib.ListN.{drop}
 use Rattle.record.specs.declared.Record.{Record}
 use Rattle.record.specs.Records.{Clean}
 use Rattle.clean.specs.Unused.{zeros, clean_address, clean_state, clean_test}
-use Rattle.clean.specs.UnusedLaws.{clean_test_lem}
+use Rattle.clean.proofs.UnusedLaws.{clean_test_lem}
 use Rattle.record.proofs.InMemory.{in_memory}
 use Rattle.clean.proofs.clean.Statement.{statement}
 use Rattle.clean.proofs.clean.Tie as tie

@@ -4,7 +4,7 @@ use mathlib.Core.Bool.{Bool, true}
 use borrow.Author.Rules.{rules}
 use Rattle.record.specs.Records.{Plain}
 use Rattle.clean.specs.Unused.{plain_test}
-use Rattle.clean.specs.UnusedLaws.{plain_test_lem}
+use Rattle.clean.proofs.UnusedLaws.{plain_test_lem}
 use Rattle.record.proofs.InMemory.{in_memory}
 use Rattle.clean.proofs.plain.Statement.{statement}
 use Rattle.clean.proofs.plain.Tie as tie

@@ -3,7 +3,7 @@ use mathlib.Core.Path.{ap, ◌∙◌}
 use mathlib.Core.List.{List}
 use Prim.Native.Nat.{ℕ}
 use Rattle.lent.specs.Placed.{placed}
-use Rattle.record.specs.HeldLaws.{held-placed}
+use Rattle.record.proofs.HeldLaws.{held-placed}
 use borrow.Author.Rules.{rules}
 use Rattle.connection.proofs.put_address.Statement.{statement}
 use Rattle.connection.proofs.put_address.Tie as tie

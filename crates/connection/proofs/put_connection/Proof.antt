@@ -4,7 +4,7 @@ use mathlib.Core.List.{List, [], ◌∷◌, ◌++◌, append_assoc}
 use Prim.Native.Nat.{ℕ}
 use Rattle.exact.specs.Network.{network}
 use Rattle.record.specs.Records.{held}
-use Rattle.record.specs.HeldLaws.{held-length}
+use Rattle.record.proofs.HeldLaws.{held-length}
 use Rattle.lent.specs.Placed.{placed}
 use Rattle.lent.specs.Buffers.{over}
 use Rattle.kind_code.specs.Codes.{code_of}

@@ -7,7 +7,7 @@ use Rattle.record.proofs.InMemory.{in_memory}
 use Rattle.lent.specs.Buffers.{over}
 use Rattle.connection.specs.Connection.{connection_size, connection_bytes}
 use Rattle.connection.proofs.Parts.{record_again}
-use Rattle.lent.specs.BufferLaws.{roomy, cramped}
+use Rattle.lent.proofs.BufferLaws.{roomy, cramped}
 use borrow.Author.Rules.{rules}
 use Rattle.connection.proofs.put_record.Statement.{statement}
 use Rattle.connection.proofs.put_record.Tie as tie

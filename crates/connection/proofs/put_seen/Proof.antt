@@ -9,7 +9,7 @@ use Rattle.address_block.specs.AddressBlock.{block_record}
 use Rattle.lent.specs.Buffers.{over}
 use Rattle.connection.specs.Connection.{connection_size, connection_bytes}
 use Rattle.connection.proofs.Parts.{part_short, block_parts, caller_parts, seen_as}
-use Rattle.lent.specs.BufferLaws.{roomy, cramped}
+use Rattle.lent.proofs.BufferLaws.{roomy, cramped}
 use borrow.Author.Rules.{rules}
 use Rattle.connection.proofs.put_seen.Statement.{statement}
 use Rattle.connection.proofs.put_seen.Tie as tie

@@ -5,7 +5,7 @@ use mathlib.Core.List.{List}
 use borrow.Author.Rules.{rules}
 use lib.ListN.{length}
 use Rattle.exact.specs.Claim.{AllBytes}
-use Rattle.exact.specs.Parser.{bytes_of}
+use Rattle.exact.proofs.Parser.{bytes_of}
 use Rattle.record.specs.declared.Record.{Record}
 use Rattle.answer.specs.Answers.{WriteAnswer, output_after}
 use Rattle.stored_form.specs.declared.StoredVersion.{StoredVersion}
@@ -13,9 +13,9 @@ use Rattle.stored_form.specs.declared.Outcome.{Outcome}
 use Rattle.stored_form.specs.declared.Converted.{Converted}
 use Rattle.stored_form.specs.declared.Converted.TheVariants.{Stored, Invalid}
 use Rattle.stored_form.specs.Loading.{LoadAnswer, told_outcome, load_answer}
-use Rattle.stored_form.specs.RoundTrip.{load_again}
+use Rattle.stored_form.proofs.RoundTrip.{load_again}
 use Rattle.stored_form.specs.Converting.{converted, convert_by, convert_answer, told_converted, LoadThenStore, GoesBack}
-use Rattle.stored_form.specs.Moving.{converted-stored, answer_stored, load_then_store, goes_back}
+use Rattle.stored_form.proofs.Moving.{converted-stored, answer_stored, load_then_store, goes_back}
 use Rattle.convert.proofs.convert.Statement.{statement}
 use Rattle.convert.proofs.convert.Tie as tie
 

@@ -7,9 +7,9 @@ use borrow.Author.Rules.{rules}
 use lib.ListN.{length, get_or}
 use Rattle.exact.specs.Claim.{Verdict, refused, accepted, more, Claim}
 use Rattle.exact.specs.Ended.{Ended}
-use Rattle.exact.specs.MachineLaws.{from_start, from_end, from-go, from-done, from-dead}
+use Rattle.exact.proofs.MachineLaws.{from_start, from_end, from-go, from-done, from-dead}
 use Rattle.exact.specs.Machine.{Move, run, go, done, dead, from}
-use Rattle.exact.specs.Theorem.{leaf_claims}
+use Rattle.exact.proofs.Theorem.{leaf_claims}
 use Rattle.decimal.specs.Decimal.{Digit, Decimal}
 use Rattle.decimal.specs.DecimalVerdict.{At, decimal_verdict, step_decimal, least_decimal, start, behind}
 use Rattle.decimal.specs.DecimalLeaf.{decimal}

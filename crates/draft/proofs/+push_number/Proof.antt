@@ -5,8 +5,8 @@ use native.Mathlib.Omega.{arith}
 use borrow.Author.Rules.{rules}
 use borrow.Fn.Kinds.{In}
 use borrow.Fn.PlainCycle.{Measures, is, falls, and}
-use Rattle.draft.specs.NumeralLaws.{numeral_one, numeral_more}
-use Rattle.draft.specs.DraftLaws.{appended_more}
+use Rattle.draft.proofs.NumeralLaws.{numeral_one, numeral_more}
+use Rattle.draft.proofs.DraftLaws.{appended_more}
 use Rattle.draft.proofs.push_number.Reads as push-number
 use Rattle.draft.proofs.push_number.Kinds as push-number-kinds
 use Rattle.draft.proofs.+push_number.Lts-push_number as push-number-lts

@@ -9,7 +9,7 @@ use lib.Seq.{take_all}
 use borrow.Author.Rules.{rules}
 use Rattle.draft.specs.Numeral.{numeral, joined}
 use Rattle.draft.specs.Drafts.{drafted, appended}
-use Rattle.draft.specs.DraftLaws.{appended_none, appended_more, appended-length}
+use Rattle.draft.proofs.DraftLaws.{appended_none, appended_more, appended-length}
 use Rattle.draft.proofs.Joined.{joined_first, joined_next}
 use Rattle.draft.proofs.push_numbers.Statement.{statement}
 use Rattle.draft.proofs.push_numbers.Tie as tie

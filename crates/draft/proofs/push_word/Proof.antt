@@ -7,7 +7,7 @@ use lib.ListN.{length, take}
 use lib.Seq.{take_all, take-suc}
 use borrow.Author.Rules.{rules}
 use Rattle.draft.specs.Drafts.{drafted, appended}
-use Rattle.draft.specs.DraftLaws.{appended_none, appended_more, appended-length}
+use Rattle.draft.proofs.DraftLaws.{appended_none, appended_more, appended-length}
 use Rattle.draft.proofs.push_word.Statement.{statement}
 use Rattle.draft.proofs.push_word.Tie as tie
 

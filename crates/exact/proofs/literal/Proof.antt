@@ -10,12 +10,12 @@ use borrow.Author.Tests.{eq-eqb, ne_eqb}
 use borrow.Author.Rules.{rules}
 use Rattle.exact.specs.Claim.{Verdict, accepted, more, refused, Claim}
 use Rattle.exact.specs.Field.{flat}
-use Rattle.exact.specs.MachineLaws.{from_start, from_end, from-go, from-done, from-dead}
+use Rattle.exact.proofs.MachineLaws.{from_start, from_end, from-go, from-done, from-dead}
 use Rattle.exact.specs.Machine.{Move, go, done, dead, from}
-use Rattle.exact.specs.Parser.{bytes_of}
+use Rattle.exact.proofs.Parser.{bytes_of}
 use Rattle.exact.specs.LiteralLaws.{literal_exact}
 use Rattle.exact.specs.Literal.{Common, Literal, literal, least_literal, step_literal}
-use Rattle.exact.specs.Theorem.{leaf_claims}
+use Rattle.exact.proofs.Theorem.{leaf_claims}
 use Rattle.exact.proofs.literal.Statement.{statement}
 use Rattle.exact.proofs.literal.Tie as tie
 

@@ -13,16 +13,17 @@ use Rattle.exact.specs.declared.Scan.TheVariants.{Accepted, More, Refused}
 use Rattle.exact.specs.Claim.{more, Claim}
 use Rattle.exact.specs.Ended.{Ended}
 use Rattle.exact.specs.Pick.{pick}
-use Rattle.exact.specs.Parser.{tail_all}
-use Rattle.exact.specs.Theorem.{leaf_claims}
+use Rattle.exact.proofs.Parser.{tail_all}
+use Rattle.exact.proofs.Theorem.{leaf_claims}
 use Rattle.ip4.specs.declared.Octets.{Octets}
 use Rattle.exact.specs.Scans.{told, heard}
 use Rattle.ip4.specs.Octets.{told_octets, Unused}
 use Rattle.decimal.specs.Decimal.{Digit}
 use Rattle.ip4.specs.Ip4.{Address}
-use Rattle.exact.specs.Verdicts.{Within, few_count}
+use Rattle.exact.specs.Verdicts.{Within}
+use Rattle.exact.proofs.Verdicts.{few_count}
 use Rattle.decimal.specs.DecimalVerdict.{decimal_verdict}
-use Rattle.decimal.specs.DecimalLeaf.{decimal_within, decimal_few}
+use Rattle.decimal.proofs.DecimalLeaf.{decimal_within, decimal_few}
 use Rattle.ip4.specs.Ip4Verdict.{end_of, ip4_verdict}
 use Rattle.ip4.specs.Ip4Leaf.{ip4}
 use Rattle.ip4.proofs.Turn.{octets_from, octets_start, octets_end, octet_more, octet_refused, octet_accepted}

@@ -8,7 +8,7 @@ use lib.ListN.{length, get_or}
 use Rattle.exact.specs.declared.Scan.{Scan}
 use Rattle.colon_part.specs.declared.Part.{Part}
 use Rattle.hex_digits.specs.Hex.{hex_of}
-use Rattle.hex_digits.specs.HexLaws.{hex_most}
+use Rattle.hex_digits.proofs.HexLaws.{hex_most}
 use Rattle.ip6.specs.Machine.{digits, behind}
 use Rattle.ip6.specs.Partial.{Partial, sofar, Sized, gathered_of}
 use Rattle.ip6.specs.Answer.{From}

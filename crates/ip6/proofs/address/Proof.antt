@@ -5,9 +5,9 @@ use Prim.Native.Nat.{ℕ, zero, suc}
 use borrow.Author.Rules.{rules}
 use Rattle.exact.specs.Claim.{Verdict, Claim}
 use Rattle.exact.specs.Ended.{Ended}
-use Rattle.exact.specs.MachineLaws.{from_start}
+use Rattle.exact.proofs.MachineLaws.{from_start}
 use Rattle.exact.specs.Machine.{run}
-use Rattle.exact.specs.Theorem.{leaf_claims}
+use Rattle.exact.proofs.Theorem.{leaf_claims}
 use Rattle.exact.specs.Scans.{heard}
 use Rattle.exact.specs.declared.Scan.{Scan}
 use Rattle.exact.specs.declared.Scan.TheVariants.{Refused}

@@ -3,8 +3,8 @@ use mathlib.Core.Path.{refl, ap, ◌∙◌}
 use Prim.Native.Nat.{ℕ}
 use native.Mathlib.Omega.{arith}
 use lib.ListN.{drop}
-use Rattle.exact.specs.Parser.{tail_all}
-use Rattle.lent.specs.PartLaws.{drop_least}
+use Rattle.exact.proofs.Parser.{tail_all}
+use Rattle.lent.proofs.PartLaws.{drop_least}
 use borrow.Author.Rules.{rules}
 use Rattle.lent.proofs.behind.Statement.{statement}
 use Rattle.lent.proofs.behind.Tie as tie

@@ -3,7 +3,7 @@ use mathlib.Core.Path.{◌≡◌, refl, ap, ◌∙◌}
 use Prim.Native.Nat.{ℕ, ◌-◌, min}
 use native.Mathlib.Omega.{arith}
 use lib.ListN.{length, take}
-use Rattle.lent.specs.PartLaws.{take_least}
+use Rattle.lent.proofs.PartLaws.{take_least}
 use borrow.Author.Rules.{rules}
 use Rattle.lent.proofs.front.Statement.{statement}
 use Rattle.lent.proofs.front.Tie as tie

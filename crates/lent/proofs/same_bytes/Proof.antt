@@ -9,7 +9,8 @@ use borrow.Author.Tests.{eq-eqb, ne_eqb}
 use lib.Dec.{eqb}
 use lib.ListN.{length, drop, get_or, drop_of_length-le}
 use lib.Seq.{drop-cons}
-use Rattle.lent.specs.Same.{same, same_equal}
+use Rattle.lent.specs.Same.{same}
+use Rattle.lent.proofs.Same.{same_equal}
 use Rattle.lent.proofs.same_bytes.Statement.{statement}
 use Rattle.lent.proofs.same_bytes.Tie as tie
 

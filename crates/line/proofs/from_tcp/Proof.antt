@@ -5,14 +5,14 @@ use mathlib.Core.List.{List}
 use native.Mathlib.Omega.{arith}
 use lib.ListN.{drop}
 use Rattle.exact.specs.Scans.{told}
-use Rattle.exact.specs.Stage.{stage_inside, stage_place}
+use Rattle.exact.proofs.Stage.{stage_inside, stage_place}
 use Rattle.exact.specs.Ascii.{ascii}
-use Rattle.exact.specs.LiteralLaws.{literal_few}
-use Rattle.exact.specs.Verdicts.{few_count}
+use Rattle.exact.proofs.LiteralLaws.{literal_few}
+use Rattle.exact.proofs.Verdicts.{few_count}
 use Rattle.exact.specs.declared.Scan.{Scan}
 use Rattle.fields.specs.Exactness.{address4, address6}
 use Rattle.fields.specs.LineFields.{Headers, tcp_word, families}
-use Rattle.answer.specs.StageLaws.{said, as_more, as_refused, as_accepted}
+use Rattle.answer.proofs.StageLaws.{said, as_more, as_refused, as_accepted}
 use borrow.Author.Rules.{rules}
 use Rattle.line.proofs.from_tcp.Statement.{statement}
 use Rattle.line.proofs.from_tcp.Tie as tie

@@ -5,7 +5,7 @@ use borrow.Author.Rules.{rules}
 use borrow.Author.Tests.{ne_eqb}
 use Rattle.fields.specs.Exactness.{address4, address6}
 use Rattle.fields.specs.LineFields.{is_u, unknown, tcps, words}
-use Rattle.answer.specs.StageLaws.{sees_as, as_end}
+use Rattle.answer.proofs.StageLaws.{sees_as, as_end}
 use Rattle.line_body.proofs.Choices.{choice_by}
 use Rattle.line.proofs.from_word.Statement.{statement}
 use Rattle.line.proofs.from_word.Tie as tie

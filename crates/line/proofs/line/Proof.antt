@@ -5,13 +5,13 @@ use mathlib.Core.List.{List}
 use Rattle.exact.specs.Claim.{accepted, more, refused}
 use native.Mathlib.Omega.{arith}
 use Rattle.exact.specs.Ascii.{ascii}
-use Rattle.exact.specs.LiteralLaws.{literal_few}
-use Rattle.exact.specs.Verdicts.{few_count}
+use Rattle.exact.proofs.LiteralLaws.{literal_few}
+use Rattle.exact.proofs.Verdicts.{few_count}
 use Rattle.exact.specs.Scans.{told}
 use Rattle.exact.specs.declared.Scan.{Scan}
 use Rattle.fields.specs.Exactness.{address4, address6}
 use Rattle.fields.specs.LineFields.{proxy_word, words}
-use Rattle.answer.specs.StageLaws.{as_first}
+use Rattle.answer.proofs.StageLaws.{as_first}
 use borrow.Author.Rules.{rules}
 use Rattle.line.proofs.line.Statement.{statement}
 use Rattle.line.proofs.line.Tie as tie

@@ -5,16 +5,16 @@ use mathlib.Core.Bool.{Bool}
 use mathlib.Core.List.{List}
 use native.Mathlib.Omega.{arith}
 use lib.ListN.{drop, take}
-use Rattle.exact.specs.Stage.{stage_inside, stage_place}
+use Rattle.exact.proofs.Stage.{stage_inside, stage_place}
 use Rattle.exact.specs.Parser.{Parser}
 use Rattle.exact.specs.declared.Scan.{Scan}
 use Rattle.exact.specs.Field.{flat}
-use Rattle.exact.specs.Verdicts.{few_count}
+use Rattle.exact.proofs.Verdicts.{few_count}
 use Rattle.fields.specs.LineFields.{Headers, from_source_port}
 use Rattle.line_address.specs.Families.{tcp_kind, width, field, told_bytes}
 use Rattle.line_body.proofs.AddressLaws.{said_found, found_padded}
-use Rattle.line_address.specs.FamilyLaws.{address_few}
-use Rattle.answer.specs.StageLaws.{as_more, as_refused, as_accepted}
+use Rattle.line_address.proofs.FamilyLaws.{address_few}
+use Rattle.answer.proofs.StageLaws.{as_more, as_refused, as_accepted}
 use borrow.Author.Rules.{rules}
 use Rattle.line_body.proofs.from_destination.Statement.{statement}
 use Rattle.line_body.proofs.from_destination.Tie as tie

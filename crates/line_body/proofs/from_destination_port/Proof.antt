@@ -6,9 +6,9 @@ use native.Mathlib.Omega.{arith}
 use lib.ListN.{drop, take}
 use Rattle.exact.specs.Field.{shift}
 use Rattle.exact.specs.Scans.{told}
-use Rattle.exact.specs.Verdicts.{few_count}
-use Rattle.decimal.specs.DecimalLeaf.{decimal_few}
-use Rattle.exact.specs.Stage.{stage_inside, stage_member, stage_place}
+use Rattle.exact.proofs.Verdicts.{few_count}
+use Rattle.decimal.proofs.DecimalLeaf.{decimal_few}
+use Rattle.exact.proofs.Stage.{stage_inside, stage_member, stage_place}
 use Rattle.exact.specs.declared.Scan.{Scan}
 use Rattle.record.specs.declared.Kind.{Kind}
 use Rattle.record.specs.declared.Record.{Record}
@@ -17,7 +17,7 @@ use Rattle.record.specs.Records.{record_of}
 use Rattle.fields.specs.LineFields.{Headers, lined, line_feed, destination_port}
 use Rattle.line_address.specs.Families.{tcp_kind, width}
 use Rattle.line_body.proofs.AddressLaws.{own_caller}
-use Rattle.answer.specs.StageLaws.{sees_as, said, as_more, as_refused, as_accepted}
+use Rattle.answer.proofs.StageLaws.{sees_as, said, as_more, as_refused, as_accepted}
 use borrow.Author.Rules.{rules}
 use Rattle.line_body.proofs.from_destination_port.Statement.{statement}
 use Rattle.line_body.proofs.from_destination_port.Tie as tie

@@ -3,7 +3,7 @@ use mathlib.Core.Path.{refl, sym, ◌∙◌}
 use borrow.Author.Tests.{not-true, not-false}
 use Rattle.fields.specs.Exactness.{address4, address6}
 use Rattle.fields.specs.LineFields.{families}
-use Rattle.answer.specs.StageLaws.{sees_as, as_end}
+use Rattle.answer.proofs.StageLaws.{sees_as, as_end}
 use Rattle.line_body.proofs.Choices.{family_known, family_other}
 use borrow.Author.Rules.{rules}
 use Rattle.line_body.proofs.from_family.Statement.{statement}

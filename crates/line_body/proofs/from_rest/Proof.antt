@@ -7,13 +7,13 @@ use lib.ListN.{drop}
 use Rattle.exact.specs.Claim.{more}
 use Rattle.exact.specs.Field.{flat}
 use Rattle.exact.specs.Scans.{told}
-use Rattle.exact.specs.Stage.{stage_inside, stage_place}
+use Rattle.exact.proofs.Stage.{stage_inside, stage_place}
 use Rattle.exact.specs.Parser.{just}
 use Rattle.exact.specs.declared.Scan.{Scan}
 use Rattle.record.specs.declared.Kind.TheVariants.{Unspecified}
 use Rattle.record.specs.Records.{bare}
 use Rattle.fields.specs.LineFields.{Headers, lined, rest_field}
-use Rattle.answer.specs.StageLaws.{said, as_more, as_refused, as_accepted, as_line}
+use Rattle.answer.proofs.StageLaws.{said, as_more, as_refused, as_accepted, as_line}
 use Rattle.answer.specs.Sight.{kind_only}
 use borrow.Author.Rules.{rules}
 use Rattle.line_body.proofs.from_rest.Statement.{statement}

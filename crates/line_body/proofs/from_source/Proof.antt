@@ -5,17 +5,17 @@ use mathlib.Core.Bool.{Bool}
 use mathlib.Core.List.{List}
 use native.Mathlib.Omega.{arith}
 use lib.ListN.{drop}
-use Rattle.exact.specs.Stage.{stage_inside, stage_place}
+use Rattle.exact.proofs.Stage.{stage_inside, stage_place}
 use Rattle.exact.specs.Parser.{Parser}
 use Rattle.exact.specs.declared.Scan.{Scan}
 use Rattle.exact.specs.Claim.{more}
 use Rattle.exact.specs.Field.{flat}
-use Rattle.exact.specs.Verdicts.{few_count}
+use Rattle.exact.proofs.Verdicts.{few_count}
 use Rattle.fields.specs.LineFields.{Headers, from_destination}
 use Rattle.line_address.specs.Families.{tcp_kind, width, field, told_bytes}
 use Rattle.line_body.proofs.AddressLaws.{said_found, found_padded}
-use Rattle.line_address.specs.FamilyLaws.{shortest_least, shortest_most, address_few}
-use Rattle.answer.specs.StageLaws.{as_more, as_refused, as_accepted}
+use Rattle.line_address.proofs.FamilyLaws.{shortest_least, shortest_most, address_few}
+use Rattle.answer.proofs.StageLaws.{as_more, as_refused, as_accepted}
 use borrow.Author.Rules.{rules}
 use Rattle.line_body.proofs.from_source.Statement.{statement}
 use Rattle.line_body.proofs.from_source.Tie as tie

@@ -5,13 +5,13 @@ use mathlib.Core.List.{List}
 use native.Mathlib.Omega.{arith}
 use lib.ListN.{drop, take}
 use Rattle.exact.specs.Scans.{told}
-use Rattle.exact.specs.Verdicts.{few_count}
-use Rattle.decimal.specs.DecimalLeaf.{decimal_few}
-use Rattle.exact.specs.Stage.{stage_inside, stage_member, stage_place}
+use Rattle.exact.proofs.Verdicts.{few_count}
+use Rattle.decimal.proofs.DecimalLeaf.{decimal_few}
+use Rattle.exact.proofs.Stage.{stage_inside, stage_member, stage_place}
 use Rattle.exact.specs.declared.Scan.{Scan}
 use Rattle.fields.specs.LineFields.{Headers, source_port, from_destination_port}
 use Rattle.line_address.specs.Families.{tcp_kind, width}
-use Rattle.answer.specs.StageLaws.{said, as_more, as_refused, as_accepted}
+use Rattle.answer.proofs.StageLaws.{said, as_more, as_refused, as_accepted}
 use borrow.Author.Rules.{rules}
 use Rattle.line_body.proofs.from_source_port.Statement.{statement}
 use Rattle.line_body.proofs.from_source_port.Tie as tie

@@ -7,8 +7,8 @@ use native.Mathlib.Omega.{arith}
 use borrow.Author.Rules.{rules}
 use Rattle.exact.specs.Claim.{more}
 use Rattle.fields.specs.LineFields.{from_source}
-use Rattle.answer.specs.StageLaws.{sees_as, as_end}
-use Rattle.line_address.specs.FamilyLaws.{shortest_most}
+use Rattle.answer.proofs.StageLaws.{sees_as, as_end}
+use Rattle.line_address.proofs.FamilyLaws.{shortest_most}
 use Rattle.line_address.specs.Families.{tcp_kind, field, shortest_address}
 use Rattle.line_body.specs.Stages.{from_space}
 use Rattle.line_body.proofs.Choices.{byte_first, byte_other, word_only, word_other}

@@ -4,7 +4,7 @@ use mathlib.Core.Path.{◌≡◌, refl, sym, ap, subst}
 use lib.ListN.{drop}
 use Rattle.exact.specs.Field.{shift}
 use Rattle.fields.specs.LineFields.{lined, line_feed, unknown_end}
-use Rattle.answer.specs.StageLaws.{sees_as, as_end}
+use Rattle.answer.proofs.StageLaws.{sees_as, as_end}
 use Rattle.line_body.proofs.Choices.{end_cr, end_space, end_other}
 use Rattle.answer.specs.declared.Caller.{Caller}
 use Rattle.answer.specs.Sight.{caller_record, caller_of}

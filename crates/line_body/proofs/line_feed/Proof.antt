@@ -7,7 +7,7 @@ use Rattle.exact.specs.Field.{flat}
 use Rattle.exact.specs.Parser.{just}
 use Rattle.fields.specs.LineFields.{lined, line_feed}
 use Rattle.answer.specs.Sight.{caller_record}
-use Rattle.answer.specs.StageLaws.{sees_as, as_end, as_line}
+use Rattle.answer.proofs.StageLaws.{sees_as, as_end, as_line}
 use Rattle.line_body.proofs.Choices.{byte_first, byte_other, word_only, word_other}
 use Rattle.line_body.proofs.line_feed.Statement.{statement}
 use Rattle.line_body.proofs.line_feed.Tie as tie

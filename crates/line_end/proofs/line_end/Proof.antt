@@ -10,13 +10,14 @@ use lib.ListN.{length, get_or}
 use borrow.Author.Tests.{eq-eqb, ne_eqb}
 use Rattle.exact.specs.Claim.{Verdict, more, refused, Claim}
 use Rattle.exact.specs.Valueless.{Valueless}
-use Rattle.exact.specs.Theorem.{leaf_claims}
-use Rattle.exact.specs.MachineLaws.{from_start, from_end, from-go, from-done, from-dead}
+use Rattle.exact.proofs.Theorem.{leaf_claims}
+use Rattle.exact.proofs.MachineLaws.{from_start, from_end, from-go, from-done, from-dead}
 use Rattle.exact.specs.Machine.{from}
 use Rattle.exact.specs.Pick.{pick}
 use Rattle.line_end.specs.Line.{FirstEnd}
 use Rattle.line_end.specs.LineVerdict.{line, least, pass, step_line, least_line, line_verdict}
-use Rattle.line_end.specs.LineLeaf.{line_end, lf_ends, passes_by, pass-go, pass-dead}
+use Rattle.line_end.specs.LineLeaf.{line_end}
+use Rattle.line_end.proofs.LineLeaf.{lf_ends, passes_by, pass-go, pass-dead}
 use Rattle.line_end.proofs.line_end.Statement.{statement}
 use Rattle.line_end.proofs.line_end.Tie as tie
 

@@ -1,6 +1,6 @@
 -- Each part is put behind the one before it.
 use borrow.Author.Rules.{rules}
-use Rattle.draft.specs.DraftLaws.{appended_more, appended-length}
+use Rattle.draft.proofs.DraftLaws.{appended_more, appended-length}
 use Rattle.line_text.proofs.tcp_line.Statement.{statement}
 use Rattle.line_text.proofs.tcp_line.Tie as tie
 

@@ -9,15 +9,17 @@ use borrow.Author.Tests.{not-true, not-false}
 use Rattle.record.specs.declared.Record.{Record}
 use Rattle.record.specs.Records.{Sized}
 use Rattle.lent.specs.Placed.{placed}
-use Rattle.lent.specs.PlacedLaws.{placed_start}
+use Rattle.lent.proofs.PlacedLaws.{placed_start}
 use Rattle.record.proofs.InMemory.{in_memory}
-use Rattle.draft.specs.DraftLaws.{draft_size, draft_says, draft_room}
+use Rattle.draft.proofs.DraftLaws.{draft_size, draft_says, draft_room}
 use Rattle.answer.specs.Answers.{WriteAnswer, output_after}
-use Rattle.answer.specs.OutputLaws.{output_refused, is_wrote, output_written, Promised, promised}
+use Rattle.answer.proofs.OutputLaws.{output_refused, is_wrote, output_written, promised}
+use Rattle.answer.specs.OutputLaws.{Promised}
 use Rattle.line_text.specs.LineText.{written_line}
 use Rattle.line_writer.specs.Written.{line_answer}
-use Rattle.line_writer.specs.LineLaws.{written_fits}
-use Rattle.line_writer.specs.Demand.{Means, answer_means, line_accepted, ReadsBack, reads_back}
+use Rattle.line_writer.proofs.LineLaws.{written_fits}
+use Rattle.line_writer.specs.Demand.{Means, ReadsBack}
+use Rattle.line_writer.proofs.Demand.{answer_means, line_accepted, reads_back}
 use Rattle.line_writer.proofs.write_line.Statement.{statement}
 use Rattle.line_writer.proofs.write_line.Tie as tie
 

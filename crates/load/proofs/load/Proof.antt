@@ -7,7 +7,7 @@ use native.Mathlib.Omega.{arith}
 use borrow.Author.Rules.{rules}
 use borrow.Author.Tests.{not-true, not-false}
 use lib.ListN.{length, get_or}
-use Rattle.exact.specs.Parser.{bytes_of}
+use Rattle.exact.proofs.Parser.{bytes_of}
 use Rattle.exact.specs.Pick.{pick}
 use Rattle.record.specs.declared.Kind.{Kind}
 use Rattle.record.specs.declared.Checksum.{Checksum}
@@ -19,11 +19,11 @@ use Rattle.kind_code.specs.States.{told_state}
 use Rattle.stored_form.specs.declared.StoredVersion.{StoredVersion}
 use Rattle.stored_form.specs.declared.Loaded.{Loaded}
 use Rattle.stored_form.specs.Heads.{head_length, state_in}
-use Rattle.stored_form.specs.HeadLaws.{six_at_least}
+use Rattle.stored_form.proofs.HeadLaws.{six_at_least}
 use Rattle.stored_form.specs.Loading.{LoadAnswer, no_record, told_loaded, loaded_record, has_mark, has_version, load_block, load_answer}
 use Rattle.stored_form.specs.Meaning.{LoadMeans}
-use Rattle.stored_form.specs.LoadLaws.{answer_short, answer_mark, answer_version, answer_code, answer_no_state, answer_state}
-use Rattle.stored_form.specs.RoundTrip.{load_means}
+use Rattle.stored_form.proofs.LoadLaws.{answer_short, answer_mark, answer_version, answer_code, answer_no_state, answer_state}
+use Rattle.stored_form.proofs.RoundTrip.{load_means}
 use Rattle.load.proofs.load.Statement.{statement}
 use Rattle.load.proofs.load.Tie as tie
 

@@ -5,18 +5,18 @@ use mathlib.Core.List.{List}
 use native.Mathlib.Omega.{arith}
 use borrow.Author.Rules.{rules}
 use lib.ListN.{drop}
-use Rattle.exact.specs.Parser.{tail_all}
+use Rattle.exact.proofs.Parser.{tail_all}
 use Rattle.record.specs.declared.Kind.{Kind}
 use Rattle.record.specs.declared.Checksum.{Checksum}
 use Rattle.record.specs.Records.{with_checksum}
 use Rattle.address_block.specs.AddressBlock.{block_record}
-use Rattle.address_block.specs.AddressBlockLaws.{address_fits, port_fits}
+use Rattle.address_block.proofs.AddressBlockLaws.{address_fits, port_fits}
 use Rattle.stored_form.specs.declared.StoredVersion.{StoredVersion}
 use Rattle.stored_form.specs.declared.Loaded.{Loaded}
 use Rattle.stored_form.specs.declared.Outcome.TheVariants.{Accepted}
-use Rattle.stored_form.specs.HeadLaws.{seven_at_most}
+use Rattle.stored_form.proofs.HeadLaws.{seven_at_most}
 use Rattle.stored_form.specs.Loading.{LoadAnswer, loads, told_loaded, loaded_record, load_block}
-use Rattle.stored_form.specs.LoadLaws.{block_length_lem, block_whole}
+use Rattle.stored_form.proofs.LoadLaws.{block_length_lem, block_whole}
 use Rattle.load.proofs.load_block.Statement.{statement}
 use Rattle.load.proofs.load_block.Tie as tie
 

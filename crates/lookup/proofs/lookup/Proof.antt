@@ -5,7 +5,8 @@ use mathlib.Core.List.{List}
 use native.Mathlib.Omega.{arith}
 use borrow.Author.Rules.{rules}
 use lib.ListN.{length}
-use Rattle.tlv.specs.Heads.{size_at, size_bytes}
+use Rattle.tlv.specs.Heads.{size_at}
+use Rattle.tlv.proofs.Heads.{size_bytes}
 use Rattle.lookup.proofs.Turn.{Left, left_start, left_ill, left_few, left_done, left_room, left_out, left_found, left_again}
 use Rattle.lookup.proofs.lookup.Statement.{statement}
 use Rattle.lookup.proofs.lookup.Tie as tie

@@ -7,7 +7,7 @@ use native.Mathlib.Omega.{arith}
 use borrow.Author.Rules.{rules}
 use lib.ListN.{length, get_or, set, take, drop, length-set}
 use lib.Seq.{length-take-le, take-suc, take-length, drop-cons, append_snoc, set_at}
-use Rattle.lent.specs.BufferLaws.{roomy, cramped}
+use Rattle.lent.proofs.BufferLaws.{roomy, cramped}
 use Rattle.numbers.proofs.put_all.Statement.{statement}
 use Rattle.numbers.proofs.put_all.Tie as tie
 

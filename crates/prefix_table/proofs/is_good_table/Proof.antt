@@ -11,7 +11,7 @@ use Rattle.prefix.specs.Prefix.{Prefix, row_of}
 use Rattle.prefix.specs.PrefixTests.{good_prefix}
 use Rattle.prefix_table.specs.Table.{rows_of}
 use Rattle.prefix_table.specs.TableTests.{known, good_rows, good_table}
-use Rattle.prefix_table.specs.RowLaws.{rows_at, rows_done, rows_count}
+use Rattle.prefix_table.proofs.RowLaws.{rows_at, rows_done, rows_count}
 use Rattle.prefix_table.proofs.is_good_table.Statement.{statement}
 use Rattle.prefix_table.proofs.is_good_table.Tie as tie
 

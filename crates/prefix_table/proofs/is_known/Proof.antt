@@ -10,7 +10,7 @@ use Rattle.prefix.specs.Prefix.{Prefix, row_of}
 use Rattle.prefix.specs.PrefixTests.{same_prefix}
 use Rattle.prefix_table.specs.Table.{rows_of}
 use Rattle.prefix_table.specs.TableTests.{known}
-use Rattle.prefix_table.specs.RowLaws.{rows_at, rows_done}
+use Rattle.prefix_table.proofs.RowLaws.{rows_at, rows_done}
 use Rattle.prefix_table.proofs.is_known.Statement.{statement}
 use Rattle.prefix_table.proofs.is_known.Tie as tie
 

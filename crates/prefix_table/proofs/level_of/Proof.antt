@@ -15,7 +15,7 @@ use Rattle.prefix.specs.Prefix.{Prefix, row_of}
 use Rattle.prefix.specs.PrefixTests.{matches}
 use Rattle.prefix_table.specs.Table.{rows_of}
 use Rattle.prefix_table.specs.TableTests.{reach, longest_from, level_of}
-use Rattle.prefix_table.specs.RowLaws.{rows_at, rows_done}
+use Rattle.prefix_table.proofs.RowLaws.{rows_at, rows_done}
 use Rattle.prefix_table.proofs.level_of.Statement.{statement}
 use Rattle.prefix_table.proofs.level_of.Tie as tie
 

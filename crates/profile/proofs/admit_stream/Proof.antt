@@ -11,7 +11,7 @@ use lib.ListN.{length, drop, length-drop}
 use Rattle.exact.specs.Pick.{pick}
 use Rattle.unique_id.specs.declared.UniqueId.{UniqueId}
 use Rattle.unique_id.specs.UniqueId.{Value, identified, id_of, id_in, told_id}
-use Rattle.unique_id.specs.IdLaws.{id_inside}
+use Rattle.unique_id.proofs.IdLaws.{id_inside}
 use Rattle.profile.specs.Profile.{admitted, denied, if_short, if_identified}
 use Rattle.profile.proofs.admit_stream.Statement.{statement}
 use Rattle.profile.proofs.admit_stream.Tie as tie

@@ -3,7 +3,7 @@ use mathlib.Core.Path.{ap, ◌∙◌}
 use native.Mathlib.Omega.{arith}
 use Rattle.record.specs.declared.Record.{Record}
 use Rattle.lent.specs.Buffers.{told_in}
-use Rattle.lent.specs.BufferLaws.{roomy, cramped}
+use Rattle.lent.proofs.BufferLaws.{roomy, cramped}
 use Rattle.connection.specs.Connection.{connection_size, connection_bytes}
 use Rattle.numbers.specs.Numbers.{load_number}
 use borrow.Author.Rules.{rules}

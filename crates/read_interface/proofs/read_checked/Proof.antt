@@ -12,7 +12,7 @@ use Rattle.checksum.specs.State.{state_from, state_on}
 use Rattle.checked_reader.specs.declared.Check.{Check}
 use Rattle.checked_reader.specs.CheckedReading.{told_check}
 use Rattle.read_interface.specs.ReadInterface.{spoken, ReadTold}
-use Rattle.read_interface.specs.AcceptedTold.{AcceptedTold, accepted_told, long_numbers, long_connection}
+use Rattle.read_interface.proofs.AcceptedTold.{AcceptedTold, accepted_told, long_numbers, long_connection}
 use Rattle.read_interface.proofs.CheckedLaws.{passed_on, state_told, state_written, wrong_written}
 use borrow.Author.Rules.{rules}
 use Rattle.read_interface.proofs.read_checked.Statement.{statement}

@@ -2,7 +2,7 @@
 use Prim.Native.Nat.{◌^◌, ◌<◌}
 use native.Mathlib.Omega.{arith}
 use borrow.Author.Rules.{rules}
-use Rattle.draft.specs.DraftLaws.{appended_more}
+use Rattle.draft.proofs.DraftLaws.{appended_more}
 use Rattle.report.proofs.Lengths.{accepted_fits, refused_fits}
 use Rattle.report.proofs.answer_line.Statement.{statement}
 use Rattle.report.proofs.answer_line.Tie as tie

@@ -2,7 +2,7 @@
 use lib.ListN.{length-take}
 use native.Mathlib.Omega.{arith}
 use borrow.Author.Rules.{rules}
-use Rattle.draft.specs.DraftLaws.{draft_room}
+use Rattle.draft.proofs.DraftLaws.{draft_room}
 use Rattle.report.specs.Line.{answer_line}
 use Rattle.report.proofs.print_reading.Statement.{statement}
 use Rattle.report.proofs.print_reading.Tie as tie

@@ -1,6 +1,6 @@
 -- Each arm puts the word of its case.
 use borrow.Author.Rules.{rules}
-use Rattle.draft.specs.DraftLaws.{appended_more}
+use Rattle.draft.proofs.DraftLaws.{appended_more}
 use Rattle.report.proofs.push_kind.Statement.{statement}
 use Rattle.report.proofs.push_kind.Tie as tie
 

@@ -1,6 +1,6 @@
 -- The two addresses and the two ports, each by its function.
 use mathlib.Core.Path.{refl, ◌∙◌}
-use Rattle.record.specs.RecordLaws.{same_record}
+use Rattle.record.proofs.RecordLaws.{same_record}
 use borrow.Author.Rules.{rules}
 use Rattle.request.proofs.connection_of.Statement.{statement}
 use Rattle.request.proofs.connection_of.Tie as tie

@@ -6,7 +6,7 @@ use native.Mathlib.Omega.{arith}
 use borrow.Author.Rules.{rules}
 use lib.ListN.{length}
 use Rattle.lent.specs.Buffers.{told_in}
-use Rattle.lent.specs.BufferLaws.{roomy, cramped}
+use Rattle.lent.proofs.BufferLaws.{roomy, cramped}
 use Rattle.ssl_reader.specs.Ssl.{Said}
 use Rattle.ssl_interface.specs.SslInterface.{outcome_number, said_numbers}
 use Rattle.ssl_interface.proofs.read.Statement.{statement}

@@ -5,11 +5,11 @@ use Prim.Native.Nat.{ℕ, ◌-◌, ◌≤◌}
 use native.Mathlib.Omega.{arith}
 use borrow.Author.Rules.{rules}
 use lib.ListN.{length}
-use Rattle.exact.specs.Parser.{bytes_of}
+use Rattle.exact.proofs.Parser.{bytes_of}
 use Rattle.tlv_step.specs.Step.{end, refused, told_step}
 use Rattle.ssl_reader.specs.Ssl.{client_of, is_absent, lacks_version}
 use Rattle.ssl_reader.specs.Told.{told_part}
-use Rattle.ssl_reader.specs.Laws.{said_short}
+use Rattle.ssl_reader.proofs.Laws.{said_short}
 use Rattle.ssl_reader.proofs.Turn.{Passed, passed_none, Here, here, passed_here, ill, no_version, accepts}
 use Rattle.ssl_reader.proofs.read_ssl.Statement.{statement}
 use Rattle.ssl_reader.proofs.read_ssl.Tie as tie

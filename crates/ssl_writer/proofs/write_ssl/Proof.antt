@@ -6,16 +6,17 @@ use native.Mathlib.Omega.{arith}
 use borrow.Author.Rules.{rules}
 use borrow.Author.Tests.{not-true, not-false}
 use lib.ListN.{length}
-use Rattle.exact.specs.Parser.{bytes_of}
+use Rattle.exact.proofs.Parser.{bytes_of}
 use Rattle.network32.specs.Network32.{network32}
 use Rattle.lent.specs.Placed.{placed}
-use Rattle.lent.specs.PlacedLaws.{placed_then, placed-length, placed_start}
+use Rattle.lent.proofs.PlacedLaws.{placed_then, placed-length, placed_start}
 use Rattle.answer.specs.Answers.{WriteAnswer, wrote, output_after, told_written}
-use Rattle.answer.specs.OutputLaws.{output_refused, is_wrote, output_written}
+use Rattle.answer.proofs.OutputLaws.{output_refused, is_wrote, output_written}
 use Rattle.ssl_writer.specs.declared.Present.{Present}
 use Rattle.ssl_writer.specs.Written.{Piece, piece_if, pieces_of, ssl_value, ssl_answer}
 use Rattle.ssl_writer.specs.Writes.{ReadsBack, Writes}
-use Rattle.ssl_writer.specs.ReadBack.{OfBytes, taken, written_back}
+use Rattle.ssl_writer.specs.ReadBack.{OfBytes}
+use Rattle.ssl_writer.proofs.ReadBack.{taken, written_back}
 use Rattle.ssl_writer.proofs.PutLaws.{second, third, fourth, fifth, value_from, value_from_lem, from_longer, all_of_bytes, answers_same, Wrote, next}
 use Rattle.ssl_writer.proofs.write_ssl.Statement.{statement}
 use Rattle.ssl_writer.proofs.write_ssl.Tie as tie

@@ -8,14 +8,14 @@ use borrow.Author.Tests.{not-true, not-false, le-leb, lt-leb}
 use lib.ListN.{length}
 use Rattle.record.specs.declared.Record.{Record}
 use Rattle.clean.specs.Unused.{clean_test}
-use Rattle.address_block.specs.AddressBlockLaws.{address_fits, port_fits}
+use Rattle.address_block.proofs.AddressBlockLaws.{address_fits, port_fits}
 use Rattle.record.proofs.InMemory.{in_memory}
 use Rattle.answer.specs.Answers.{wrote}
 use Rattle.stored_form.specs.declared.StoredVersion.{StoredVersion}
 use Rattle.stored_form.specs.Heads.{keeps_test}
-use Rattle.stored_form.specs.HeadLaws.{seven_at_most}
+use Rattle.stored_form.proofs.HeadLaws.{seven_at_most}
 use Rattle.stored_form.specs.Stored.{stored}
-use Rattle.stored_form.specs.RoundTrip.{stored-length}
+use Rattle.stored_form.proofs.RoundTrip.{stored-length}
 use Rattle.store.proofs.check.Statement.{statement}
 use Rattle.store.proofs.check.Tie as tie
 

@@ -11,20 +11,21 @@ use Rattle.record.specs.declared.Record.{Record}
 use Rattle.record.specs.Kinds.{block_length}
 use Rattle.record.specs.Records.{Sized}
 use Rattle.address_block.specs.AddressBlock.{address_block}
-use Rattle.address_block.specs.AddressBlockLaws.{block_size}
+use Rattle.address_block.proofs.AddressBlockLaws.{block_size}
 use Rattle.lent.specs.Placed.{placed}
-use Rattle.lent.specs.PlacedLaws.{placed_then, placed_start}
+use Rattle.lent.proofs.PlacedLaws.{placed_then, placed_start}
 use Rattle.record.proofs.InMemory.{in_memory}
 use Rattle.answer.specs.Answers.{WriteAnswer, output_after}
-use Rattle.answer.specs.OutputLaws.{output_refused, is_wrote, output_written, Promised, promised}
+use Rattle.answer.proofs.OutputLaws.{output_refused, is_wrote, output_written, promised}
+use Rattle.answer.specs.OutputLaws.{Promised}
 use Rattle.kind_code.specs.Codes.{code_of}
 use Rattle.kind_code.specs.States.{state_byte}
 use Rattle.stored_form.specs.declared.StoredVersion.{StoredVersion}
 use Rattle.stored_form.specs.Heads.{mark, version_byte, head, head_length}
-use Rattle.stored_form.specs.HeadLaws.{seven_at_most, head_length_lem, head_cut}
+use Rattle.stored_form.proofs.HeadLaws.{seven_at_most, head_length_lem, head_cut}
 use Rattle.stored_form.specs.Stored.{stored, store_answer}
 use Rattle.stored_form.specs.Meaning.{Means, LoadsBack}
-use Rattle.stored_form.specs.RoundTrip.{stored-length, answer_means, store_written, loads_back}
+use Rattle.stored_form.proofs.RoundTrip.{stored-length, answer_means, store_written, loads_back}
 use Rattle.store.proofs.store.Statement.{statement}
 use Rattle.store.proofs.store.Tie as tie
 

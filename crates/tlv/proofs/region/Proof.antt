@@ -8,13 +8,14 @@ use native.Mathlib.Omega.{arith}
 use lib.ListN.{get_or}
 use Rattle.exact.specs.Claim.{Verdict, Claim}
 use Rattle.exact.specs.Valueless.{Valueless}
-use Rattle.exact.specs.Theorem.{leaf_claims}
+use Rattle.exact.proofs.Theorem.{leaf_claims}
 use Rattle.exact.specs.Network.{number}
 use Rattle.tlv.specs.Tlv.{Filled}
 use Rattle.tlv.specs.Laws.{area_bytes}
 use Rattle.tlv.specs.Room.{good_leaves}
 use Rattle.tlv.specs.RegionVerdict.{judge, good}
-use Rattle.tlv.specs.Region.{judge_exact, good-true}
+use Rattle.tlv.proofs.RegionLemmas.{judge_exact}
+use Rattle.tlv.specs.Region.{good-true}
 use Rattle.tlv.proofs.Turn.{onward, onward_start, onward_done, onward-more, type_dead, high_more, high_dead, low_more, low_dead, low_go}
 use Rattle.tlv.proofs.region.Statement.{statement}
 use Rattle.tlv.proofs.region.Tie as tie

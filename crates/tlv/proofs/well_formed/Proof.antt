@@ -9,7 +9,8 @@ use borrow.Author.Rules.{rules}
 use lib.ListN.{length}
 use Rattle.exact.specs.Scans.{told}
 use Rattle.tlv.specs.Tlv.{WellFormed}
-use Rattle.tlv.specs.Whole.{Accepted, judged}
+use Rattle.tlv.specs.Whole.{Accepted}
+use Rattle.tlv.proofs.Whole.{judged}
 use Rattle.tlv.proofs.well_formed.Statement.{statement}
 use Rattle.tlv.proofs.well_formed.Tie as tie
 

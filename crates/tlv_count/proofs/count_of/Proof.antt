@@ -10,8 +10,9 @@ use lib.Dec.{eqb}
 use lib.ListN.{length, get_or, drop}
 use Rattle.exact.specs.Pick.{pick}
 use Rattle.tlv.specs.Tlv.{Tlv, Area, WellFormed}
-use Rattle.tlv.specs.Laws.{area_one}
-use Rattle.tlv.specs.Heads.{size_at, size_bytes, size_room, head_type, head_size, head_rest, none_left, some_left}
+use Rattle.tlv.proofs.Laws.{area_one}
+use Rattle.tlv.specs.Heads.{size_at}
+use Rattle.tlv.proofs.Heads.{size_bytes, size_room, head_type, head_size, head_rest, none_left, some_left}
 use Rattle.tlv_count.specs.Count.{count_of, counted, Counts}
 use Rattle.tlv_count.specs.declared.Count.TheVariants.{Tlvs, IllFormed}
 use Rattle.tlv_count.proofs.count_of.Statement.{statement}

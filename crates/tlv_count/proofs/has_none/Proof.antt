@@ -6,8 +6,10 @@ use Prim.Native.Nat.{ℕ}
 use native.Mathlib.Omega.{arith}
 use lib.Dec.{eqb}
 use Rattle.tlv.specs.Tlv.{WellFormed}
-use Rattle.tlv.specs.Test.{well_formed, well_formed_tested}
-use Rattle.tlv.specs.Listed.{tlvs_of, tlvs_of_lem}
+use Rattle.tlv.specs.Test.{well_formed}
+use Rattle.tlv.proofs.Test.{well_formed_tested}
+use Rattle.tlv.specs.Listed.{tlvs_of}
+use Rattle.tlv.proofs.Listed.{tlvs_of_lem}
 use Rattle.tlv_count.specs.declared.Count.{Count}
 use Rattle.tlv_count.specs.declared.Count.TheVariants.{Tlvs, IllFormed}
 use Rattle.tlv_count.specs.Count.{count_of, Counts, none_test}

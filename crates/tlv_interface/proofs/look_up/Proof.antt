@@ -5,7 +5,7 @@ use Rattle.numbers.specs.Numbers.{numbers_size, lookup_number}
 use Rattle.lookup.specs.Lookup.{Lookup}
 use Rattle.tlv_interface.specs.TlvInterface.{lookup_numbers}
 use Rattle.lent.specs.Buffers.{told_in}
-use Rattle.lent.specs.BufferLaws.{roomy, cramped}
+use Rattle.lent.proofs.BufferLaws.{roomy, cramped}
 use borrow.Author.Rules.{rules}
 use Rattle.tlv_interface.proofs.look_up.Statement.{statement}
 use Rattle.tlv_interface.proofs.look_up.Tie as tie

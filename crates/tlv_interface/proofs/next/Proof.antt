@@ -3,7 +3,7 @@ use mathlib.Core.Path.{◌≡◌, sym, subst}
 use Prim.Native.Nat.{◌+◌, ◌≤◌}
 use lib.ListN.{length}
 use Rattle.tlv_step.specs.Step.{Step, start_of, length_of}
-use Rattle.tlv_step.specs.Facts.{head_room}
+use Rattle.tlv_step.proofs.Facts.{head_room}
 use Rattle.tlv_interface.specs.TlvInterface.{StepTold}
 use borrow.Author.Rules.{rules}
 use Rattle.tlv_interface.proofs.next.Statement.{statement}

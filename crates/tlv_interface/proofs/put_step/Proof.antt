@@ -5,7 +5,7 @@ use native.Mathlib.Omega.{arith}
 use Rattle.numbers.specs.declared.Told.{Told}
 use Rattle.lent.specs.Buffers.{told_in}
 use Rattle.numbers.specs.Numbers.{numbers_size}
-use Rattle.lent.specs.BufferLaws.{roomy, cramped}
+use Rattle.lent.proofs.BufferLaws.{roomy, cramped}
 use borrow.Author.Rules.{rules}
 use Rattle.tlv_interface.proofs.put_step.Statement.{statement}
 use Rattle.tlv_interface.proofs.put_step.Tie as tie

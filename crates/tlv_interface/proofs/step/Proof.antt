@@ -3,7 +3,7 @@ use mathlib.Core.Path.{sym, subst}
 use Prim.Native.Nat.{◌+◌, ◌≤◌}
 use lib.ListN.{length}
 use Rattle.tlv_step.specs.Step.{Step, start_of, length_of}
-use Rattle.tlv_step.specs.Facts.{step_room}
+use Rattle.tlv_step.proofs.Facts.{step_room}
 use Rattle.tlv_interface.specs.TlvInterface.{StepTold}
 use borrow.Author.Rules.{rules}
 use Rattle.tlv_interface.proofs.step.Statement.{statement}

@@ -4,12 +4,13 @@ use mathlib.Core.Path.{◌≡◌, sym, ap, ◌∙◌}
 use mathlib.Core.List.{List}
 use lib.ListN.{get_or, drop}
 use Rattle.tlv.specs.Tlv.{WellFormed}
-use Rattle.tlv.specs.Heads.{size_at, size_bytes}
+use Rattle.tlv.specs.Heads.{size_at}
+use Rattle.tlv.proofs.Heads.{size_bytes}
 use Rattle.tlv_step.specs.Step.{Step, shown, head_at, step_at}
 use native.Mathlib.Omega.{arith}
 use borrow.Author.Rules.{rules}
-use Rattle.tlv_step.specs.Facts.{head_beyond, head_end, head_cut, head_shown}
-use Rattle.tlv_step.specs.Laws.{step_head}
+use Rattle.tlv_step.proofs.Facts.{head_beyond, head_end, head_cut, head_shown}
+use Rattle.tlv_step.proofs.Laws.{step_head}
 use Rattle.tlv_step.proofs.head_at.Statement.{statement}
 use Rattle.tlv_step.proofs.head_at.Tie as tie
 

@@ -5,9 +5,10 @@ use mathlib.Core.List.{List}
 use mathlib.Core.Logic.{inr}
 use borrow.Author.Rules.{rules}
 use lib.ListN.{drop}
-use Rattle.exact.specs.Parser.{tail_all}
-use Rattle.tlv.specs.Test.{well_formed, tested_is}
-use Rattle.tlv_step.specs.Laws.{refused_stays}
+use Rattle.exact.proofs.Parser.{tail_all}
+use Rattle.tlv.specs.Test.{well_formed}
+use Rattle.tlv.proofs.Test.{tested_is}
+use Rattle.tlv_step.proofs.Laws.{refused_stays}
 use Rattle.tlv_step.proofs.step_at.Statement.{statement}
 use Rattle.tlv_step.proofs.step_at.Tie as tie
 

@@ -8,9 +8,10 @@ use borrow.Author.Tests.{lt-ltb, le-ltb, le-leb, lt-leb}
 use lib.Dec.{ltb}
 use lib.ListN.{length}
 use Rattle.exact.specs.Network.{network}
-use Rattle.exact.specs.Pick.{pick_by, second_fails}
+use Rattle.exact.specs.Pick.{pick_by}
+use Rattle.exact.proofs.Pick.{second_fails}
 use Rattle.lent.specs.Placed.{placed}
-use Rattle.lent.specs.PlacedLaws.{placed_then, placed_else}
+use Rattle.lent.proofs.PlacedLaws.{placed_then, placed_else}
 use Rattle.tlv.specs.Tlv.{tlv_bytes}
 use Rattle.tlv_writer.specs.Put.{tlv_placed, place_behind}
 use Rattle.tlv_writer.proofs.put_tlv.Statement.{statement}

@@ -11,15 +11,18 @@ use lib.Dec.{leb}
 use lib.ListN.{length}
 use Rattle.exact.specs.Pick.{pick}
 use Rattle.tlv.specs.Tlv.{Tlv, WellFormed}
-use Rattle.tlv.specs.Test.{well_formed, well_formed_tested, ill_formed_tested}
-use Rattle.tlv.specs.Listed.{tlvs_of, tlvs_of_lem, few}
+use Rattle.tlv.specs.Test.{well_formed}
+use Rattle.tlv.proofs.Test.{well_formed_tested, ill_formed_tested}
+use Rattle.tlv.specs.Listed.{tlvs_of}
+use Rattle.tlv.proofs.Listed.{tlvs_of_lem, few}
 use Rattle.lookup.specs.declared.Examined.{Examined}
-use Rattle.lookup.specs.Lookup.{Lookup, found_at, told_lookup, index_of_first, start_of, length_of, lookup_listed, LooksUp}
+use Rattle.lookup.specs.Lookup.{Lookup, found_at, told_lookup, index_of_first, start_of, length_of, LooksUp}
+use Rattle.lookup.proofs.LookupLemmas.{lookup_listed}
 use Rattle.tlv_count.specs.declared.Count.{Count}
 use Rattle.tlv_count.specs.declared.Count.TheVariants.{Tlvs, IllFormed}
 use Rattle.tlv_count.specs.Count.{count_of, Counts}
 use Rattle.unique_id.specs.UniqueId.{Value, first_value, is_sized, has_id, id_of, id_in}
-use Rattle.unique_id.specs.IdLaws.{counted_first}
+use Rattle.unique_id.proofs.IdLaws.{counted_first}
 use Rattle.unique_id.proofs.unique_id.Statement.{statement}
 use Rattle.unique_id.proofs.unique_id.Tie as tie
 

@@ -7,7 +7,7 @@ use mathlib.Core.List.{List}
 use lib.ListN.{length}
 use Rattle.block_writer.specs.Areas.{area_test}
 use Rattle.block_writer.specs.Written.{block_of, written_block}
-use Rattle.block_writer.specs.OrderLaws.{in_order_lem}
+use Rattle.block_writer.proofs.OrderLaws.{in_order_lem}
 use Rattle.checked_writer.specs.Written.{checked_area, written_checked, request_test, header_text, header_answer}
 use Rattle.write_interface.proofs.WriteLaws.{Within, refused, passed_on, part_inside, part_size}
 use borrow.Author.Rules.{rules}

@@ -1,0 +1,3 @@
+pub mod Callers
+pub mod Demand
+pub mod Example

@@ -1,0 +1,3 @@
+pub mod OneSight
+pub mod OutputLaws
+pub mod StageLaws

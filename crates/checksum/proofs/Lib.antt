@@ -1,0 +1,4 @@
+pub mod ChecksumLaws
+pub mod Demand
+pub mod Example
+pub mod State

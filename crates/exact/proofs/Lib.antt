@@ -1,0 +1,11 @@
+pub mod Below
+pub mod Endings
+pub mod LiteralLaws
+pub mod MachineLaws
+pub mod Numbered
+pub mod Parser
+pub mod Pick
+pub mod Stage
+pub mod Theorem
+pub mod Unique
+pub mod Verdicts

@@ -1,0 +1,9 @@
+pub mod BlockMembers
+pub mod Counts
+pub mod Exactness
+pub mod Facts
+pub mod FactsForProofs
+pub mod LineMembers
+pub mod Places
+pub mod ReadsLemmas
+pub mod TableRight

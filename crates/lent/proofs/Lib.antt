@@ -1,0 +1,4 @@
+pub mod BufferLaws
+pub mod PartLaws
+pub mod PlacedLaws
+pub mod Same

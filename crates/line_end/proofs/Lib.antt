@@ -1,0 +1,2 @@
+pub mod LineLeaf
+pub mod LongLine

@@ -1,0 +1,3 @@
+pub mod Levels
+pub mod RowLaws
+pub mod TableLaws
