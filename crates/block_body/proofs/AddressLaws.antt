@@ -8,7 +8,8 @@ use native.Mathlib.Omega.{arith}
 use lib.ListN.{length, take, drop, length-drop}
 use Rattle.exact.specs.Claim.{Verdict, accepted, more, refused, AllBytes}
 use Rattle.exact.specs.Field.{shift, flat}
-use Rattle.exact.specs.Parser.{Parser, just, spell, reach}
+use Rattle.exact.specs.Parser.{Parser, spell, reach}
+use Rattle.exact.proofs.ParserLemmas.{just}
 use Rattle.exact.proofs.Parser.{reach-le}
 use Rattle.exact.specs.Byte.{count_verdict}
 use Rattle.record.specs.declared.Kind.{Kind}

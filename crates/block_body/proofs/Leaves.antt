@@ -11,7 +11,8 @@ use borrow.Author.Tests.{eqb-true, leb-true, lt-ltb}
 use Rattle.exact.specs.Claim.{Verdict, accepted, more, refused, AllBytes}
 use Rattle.exact.specs.Field.{shift, flat}
 use Rattle.exact.specs.Machine.{Move, dead, run, moved}
-use Rattle.exact.specs.Parser.{just, spell}
+use Rattle.exact.proofs.ParserLemmas.{just}
+use Rattle.exact.specs.Parser.{spell}
 use Rattle.exact.specs.Pick.{pick}
 use Rattle.exact.specs.Byte.{step_byte, found, step_count, counted, least_count, count_verdict}
 use Rattle.exact.specs.Network.{number_at}

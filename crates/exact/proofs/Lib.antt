@@ -9,3 +9,6 @@ pub mod Stage
 pub mod Theorem
 pub mod Unique
 pub mod Verdicts
+pub mod Choice
+pub mod NumberLemmas
+pub mod ParserLemmas

@@ -8,7 +8,8 @@ use Rattle.exact.specs.Field.{Field, Begins, Opens, least_opens, seq}
 use Rattle.exact.specs.Machine.{leaf}
 use Rattle.exact.specs.Pick.{pick, never}
 use Rattle.exact.proofs.Pick.{both}
-use Rattle.exact.specs.Parser.{Parser, Starts, just, either}
+use Rattle.exact.specs.Parser.{Parser, Starts}
+use Rattle.exact.proofs.ParserLemmas.{just, either}
 use Rattle.exact.proofs.Unique.{unique}
 use Rattle.exact.specs.Sequence.{fronts}
 use Rattle.exact.specs.LiteralLaws.{text}

@@ -1,14 +1,12 @@
 -- For proofs. A parser: a field with a function whose every verdict on it is exact under a weight of its values. Each leaf is one, and the laws make
 -- one of others.
-use Rattle.std.specs.Prelude.{◌≡◌, refl, Bool, true, false, List, [], ◌∷◌, ◌++◌, ◌↔◌, ℕ, take}
-use Rattle.std.proofs.Common.{sym, ap, ◌∙◌, subst, ⊎_elim, arith, take_at}
+use Rattle.std.specs.Prelude.{◌≡◌, refl, Bool, List, [], ◌∷◌, ◌++◌, ◌↔◌, ℕ, take}
+use Rattle.std.proofs.Common.{sym, ◌∙◌, subst, take_at}
 use Rattle.exact.specs.Claim.{Verdict, accepted, more, refused, AllBytes}
 use Rattle.exact.specs.Field.{Field, Begins, Opens, Least, flat, Exact, seq, after}
 use Rattle.exact.specs.Sequence.{begins_more, seq_exact, least_start}
 use Rattle.exact.specs.MachineLaws.{Leasts, runs_exact, runs_least}
 use Rattle.exact.specs.Machine.{leaf, Move, go, Runs, run}
-use Rattle.exact.specs.Choice.{pure, pure_exact, alt, choose, alt_least, alt_exact}
-use Rattle.exact.specs.Pick.{smaller}
 
 -- every whole field is of bytes
 abbrev pub InBytes : {A : Type 0} → Field A → Type 0
@@ -27,23 +25,6 @@ bytes_append [] t x y = y
 bytes_append (c ∷ s) t x y = (x.0, bytes_append s t x.1 y)
 
 -- ── the parsers that the laws make ──
-abbrev pub just : {A : Type 0} (w : A → ℕ) → A → Parser A w
-just w a =
-    record {
-      field = pure a;
-      verdict = λ s. accepted a 0;
-      exact = λ s. pure_exact w a s;
-      least = w a;
-      opens = record {
-        tail = [];
-        value = a;
-        whole = (refl, refl);
-        size = omega arith;
-        below = λ t b l. let same : w b ≡ w a = ap w l.1 in omega arith;
-      };
-      bytes = λ f b l. subst AllBytes (sym l.0) tt;
-    }
-
 pub bytes_seq : {A B : Type 0} (F : Field A) (G : A → Field B) → InBytes F → ((a : A) → InBytes (G a)) → InBytes (seq F G)
 bytes_seq F G x y f b l = subst AllBytes (sym l.split) (bytes_append l.front l.back (x _ _ l.first) (y _ _ _ l.second))
 
@@ -73,20 +54,6 @@ abbrev pub ◌then◌ : {A B : Type 0} {u : A → ℕ} {w : B → ℕ} (P : Pars
 pub record Starts {A : Type 0} (first : ℕ → Bool) (b : Bool) (F : Field A) : Type 0 where
   pub solid : (a : A) → F.lang [] a → ⊥
   pub head : (c : ℕ) (f : List ℕ) (a : A) → F.lang (c ∷ f) a → first c ≡ b
-
-abbrev pub either : {A : Type 0} {w : A → ℕ} (first : ℕ → Bool) (P Q : Parser A w) → Starts first true P.field → Starts first false Q.field
-    → Parser A w
-either {w = w} first P Q st-P st-Q =
-    record {
-      field = alt first P.field Q.field;
-      verdict = choose first P.least Q.least P.verdict Q.verdict;
-      exact =
-          alt_exact first P.field Q.field w P.least Q.least P.verdict Q.verdict P.exact Q.exact st-P.solid
-          st-Q.solid st-P.head st-Q.head P.opens Q.opens;
-      least = smaller P.least Q.least;
-      opens = alt_least first P.field Q.field w P.least Q.least P.opens Q.opens;
-      bytes = λ f a. ⊎_elim (P.bytes f a) (Q.bytes f a);
-    }
 
 -- a machine, from a good state q
 abbrev pub machine : {Q A : Type 0} (k : ℕ) (Ok : Q → Type 0) (step : Q → ℕ → Move Q A) (least : Q → ℕ) (w : A → ℕ) → Leasts Ok step least w

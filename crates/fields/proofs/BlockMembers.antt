@@ -7,7 +7,7 @@ use Rattle.exact.specs.Network.{network}
 use Rattle.exact.specs.Pick.{pick}
 use Rattle.exact.proofs.Below.{each_below}
 use Rattle.exact.specs.Field.{flat}
-use Rattle.exact.specs.Parser.{just}
+use Rattle.exact.proofs.ParserLemmas.{just}
 use Rattle.tlv.specs.Tlv.{WellFormed}
 use Rattle.tlv.specs.Room.{filled_fillable}
 use Rattle.record.specs.declared.Kind.{Kind}

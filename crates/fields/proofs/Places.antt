@@ -8,7 +8,7 @@ use Rattle.exact.specs.Ended.{Ended}
 use Rattle.exact.specs.Pick.{pick}
 use Rattle.exact.specs.Field.{Field, seq, flat}
 use Rattle.exact.specs.Machine.{leaf}
-use Rattle.exact.specs.Parser.{just}
+use Rattle.exact.proofs.ParserLemmas.{just}
 use Rattle.exact.specs.Literal.{Literal}
 use Rattle.exact.specs.Byte.{OneByte}
 use Rattle.exact.specs.Number.{any, Number}

@@ -5,9 +5,11 @@ use Rattle.std.proofs.Common.{arith, eqb-true, ⊎_elim}
 use Rattle.std.proofs.lemmas.Bool.{eqb-false}
 use Rattle.exact.specs.Field.{flat}
 use Rattle.exact.specs.Pick.{pick}
-use Rattle.exact.specs.Parser.{Parser, just, Fit, ◌then◌, spelled}
+use Rattle.exact.specs.Parser.{Parser, Fit, ◌then◌, spelled}
+use Rattle.exact.proofs.ParserLemmas.{just}
 use Rattle.exact.specs.Byte.{one_byte, count}
-use Rattle.exact.specs.Number.{any, number16}
+use Rattle.exact.specs.Number.{any}
+use Rattle.exact.proofs.NumberLemmas.{number16}
 use Rattle.tlv.specs.Region.{region}
 use Rattle.record.specs.declared.Kind.{Kind}
 use Rattle.record.specs.declared.Kind.TheVariants.{Local, Unspecified, Ip4, Ip6, Unix}

@@ -5,7 +5,8 @@ use Rattle.exact.specs.Claim.{Verdict}
 use Rattle.exact.specs.Ended.{Ended}
 use Rattle.exact.specs.Field.{Opens, flat}
 use Rattle.exact.specs.Machine.{leaf}
-use Rattle.exact.specs.Parser.{Starts, just, ◌then◌, either, recast}
+use Rattle.exact.specs.Parser.{Starts, ◌then◌, recast}
+use Rattle.exact.proofs.ParserLemmas.{just, either}
 use Rattle.exact.proofs.Parser.{starts_seq}
 use Rattle.exact.proofs.LiteralLaws.{starts_text}
 use Rattle.ip4.specs.Ip4Leaf.{ip4}

@@ -4,7 +4,7 @@ use Rattle.std.specs.Prelude.{◌≡◌, refl, Bool, true, false, ◌⊎◌, ℕ
 use Rattle.std.proofs.Common.{inl, inr, ⊎_elim, arith, eqb-true, eq-eqb, ne_eqb, leb-true, le-leb}
 use Rattle.std.proofs.lemmas.Bool.{eqb-false}
 use Rattle.exact.specs.Network.{number}
-use Rattle.exact.specs.Number.{number16}
+use Rattle.exact.proofs.NumberLemmas.{number16}
 use Rattle.exact.specs.Parser.{Parser}
 use Rattle.exact.specs.Pick.{pick, pick_by}
 

@@ -4,7 +4,8 @@ use Rattle.std.proofs.Common.{arith}
 use Rattle.exact.specs.Claim.{AllBytes}
 use Rattle.exact.specs.Ascii.{ascii}
 use Rattle.exact.specs.Field.{flat}
-use Rattle.exact.specs.Parser.{Parser, Starts, just, ◌then◌, either}
+use Rattle.exact.specs.Parser.{Parser, Starts, ◌then◌}
+use Rattle.exact.proofs.ParserLemmas.{just, either}
 use Rattle.exact.proofs.Parser.{starts_seq}
 use Rattle.exact.specs.LiteralLaws.{text}
 use Rattle.exact.proofs.LiteralLaws.{starts_text}

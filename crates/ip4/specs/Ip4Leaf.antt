@@ -4,7 +4,8 @@ use Rattle.std.proofs.Common.{subst, append_assoc, append-nil, ⊎_elim, arith}
 use Rattle.exact.specs.Field.{Exact, Least, flat}
 use Rattle.exact.specs.Machine.{leaf}
 use Rattle.exact.specs.Pick.{pick_by}
-use Rattle.exact.specs.Parser.{Parser, InBytes, just, ◌then◌, recast}
+use Rattle.exact.specs.Parser.{Parser, InBytes, ◌then◌, recast}
+use Rattle.exact.proofs.ParserLemmas.{just}
 use Rattle.exact.specs.Ended.{Ended}
 use Rattle.decimal.specs.Decimal.{Digit}
 use Rattle.ip4.specs.Ip4.{Address}

@@ -8,7 +8,7 @@ use Rattle.exact.specs.Claim.{more}
 use Rattle.exact.specs.Field.{flat}
 use Rattle.exact.specs.Scans.{told}
 use Rattle.exact.proofs.Stage.{stage_inside, stage_place}
-use Rattle.exact.specs.Parser.{just}
+use Rattle.exact.proofs.ParserLemmas.{just}
 use Rattle.exact.specs.declared.Scan.{Scan}
 use Rattle.record.specs.declared.Kind.TheVariants.{Unspecified}
 use Rattle.record.specs.Records.{bare}

@@ -4,7 +4,7 @@ use mathlib.Core.List.{[]}
 use native.Mathlib.Omega.{arith}
 use borrow.Author.Rules.{rules}
 use Rattle.exact.specs.Field.{flat}
-use Rattle.exact.specs.Parser.{just}
+use Rattle.exact.proofs.ParserLemmas.{just}
 use Rattle.fields.specs.LineFields.{lined, line_feed}
 use Rattle.answer.specs.Sight.{caller_record}
 use Rattle.answer.proofs.StageLaws.{sees_as, as_end, as_line}
