@@ -1,5 +1,7 @@
 // The bits of addresses, as prefixes speak of them (document 02, K14): whether the first ones of two are equal, and whether none is set behind
 // a prefix. No public function has a `requires`.
+#![tactic(auto)]
+
 ghost use Rattle.std.specs.Prelude.{◌≡◌, get_or};
 ghost use Rattle.address_bits.specs.Bits.{same_bits, clear_bits};
 

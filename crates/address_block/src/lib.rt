@@ -1,4 +1,6 @@
 // The address block of a version 2 header (document 01, "The binary block"), and the record that it gives. No public function has a `requires`.
+#![tactic(auto)]
+
 ghost use Rattle.std.specs.Prelude.{◌≡◌, ◌+◌, ◌≤◌, take, get_or};
 ghost use Rattle.exact.specs.Network.{number_at};
 ghost use Rattle.record.specs.Kinds.{address_length, port_length};

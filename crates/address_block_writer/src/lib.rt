@@ -1,4 +1,6 @@
 // A record's address block, put into an output. No public function has a `requires`.
+#![tactic(auto)]
+
 ghost use Rattle.std.specs.Prelude.{◌≡◌, take};
 ghost use Rattle.exact.specs.Network.{network};
 ghost use Rattle.record.specs.Kinds.{port_length};

@@ -1,4 +1,6 @@
 // An address as version 1 text (document 01, "The text line"; IPv6: document 02, K3). No public function has a `requires`.
+#![tactic(auto)]
+
 ghost use Rattle.std.specs.Prelude.{◌≡◌, take};
 ghost use Rattle.draft.specs.Drafts.{drafted, appended};
 ghost use Rattle.address_text.specs.Addresses.{octets_text, groups_text, groups_of, address_text};

@@ -1,5 +1,7 @@
 // The doorman of document 02, K14: the level that a prefix table gives who called, if the header meets the profile. No public function has a
 // `requires`.
+#![tactic(auto)]
+
 ghost use Rattle.std.specs.Prelude.{◌≡◌};
 ghost use Rattle.profile.specs.Answers.{told_answer};
 ghost use Rattle.admission.specs.Admits.{Admits, admission};

@@ -1,4 +1,6 @@
 // What C callers are told of a caller's level (document 02, K14). No public function has a `requires`.
+#![tactic(auto)]
+
 ghost use Rattle.std.specs.Prelude.{◌≡◌};
 ghost use Rattle.profile.specs.Answers.{told_answer};
 ghost use Rattle.admission.specs.Admits.{admission as admission_of};

@@ -1,4 +1,6 @@
 // What readers and writers answer, and the answers without a header. No public function has a `requires`.
+#![tactic(auto)]
+
 ghost use Rattle.std.specs.Prelude.{◌≡◌, List, ℕ};
 ghost use Rattle.exact.specs.Claim.{more as more_of, refused as refused_of};
 ghost use Rattle.answer.specs.Answers.{number_of, fault_number, told_written, is_written};
@@ -7,7 +9,7 @@ ghost use Rattle.answer.specs.Sight.{kind_only, in_bytes, Sees};
 use record::{Kind, Record};
 
 // The field that holds the first dead byte: document 01's numbers 1 to 9.
-#[derive(Drop)]
+#[derive(Clone, Copy)]
 pub enum Refusal {
     Start,
     Word,
@@ -21,7 +23,7 @@ pub enum Refusal {
 }
 
 // What the bytes so far are.
-#[derive(Drop)]
+#[derive(Clone, Copy)]
 pub enum Verdict {
     // They begin with a whole header of this length and version.
     Accepted { length: usize, version: u8 },
@@ -32,14 +34,14 @@ pub enum Verdict {
 }
 
 // A verdict, and the header's record; where no header is accepted, the record is unspecified.
-#[derive(Drop)]
+#[derive(Clone, Copy)]
 pub struct Reading {
     pub verdict: Verdict,
     pub record: Record,
 }
 
 // Why nothing is written: document 01's numbers 10 to 14, and document 02's 20 and 24.
-#[derive(Drop)]
+#[derive(Clone, Copy)]
 pub enum Fault {
     Form,
     Unused,
@@ -51,14 +53,14 @@ pub enum Fault {
 }
 
 // What a writer answers: how many bytes it wrote, or why it left the output as it was.
-#[derive(Drop)]
+#[derive(Clone, Copy)]
 pub enum Written {
     Bytes(usize),
     Refused(Fault),
 }
 
 // Who is calling, as a text line says it: the addresses stand at the front of their arrays, with zeros behind them.
-#[derive(Drop)]
+#[derive(Clone, Copy)]
 pub struct Caller {
     pub kind: Kind,
     pub source: [u8; 16],
@@ -69,7 +71,7 @@ pub struct Caller {
 
 // What is seen in the bytes read, before a record is made of it. Of a version 2 header the caller has only the kind: its addresses stand in
 // the bytes themselves, from 16 on.
-#[derive(Drop)]
+#[derive(Clone, Copy)]
 pub struct Seen {
     pub verdict: Verdict,
     pub caller: Caller,

@@ -1,4 +1,6 @@
 // The TLV area of a reading: where it lies in the bytes read, and the part itself. No public function has a `requires`.
+#![tactic(auto)]
+
 ghost use Rattle.std.specs.Prelude.{◌≡◌, ◌+◌, length};
 ghost use Rattle.area.specs.Area.{area_start, area_end, read_area};
 

@@ -1,5 +1,7 @@
 // The version 2 header up to its length (document 01, "The binary block"): the signature, the command and the family, a field at a time. A stage reads its
 // field and hands on to the next, and what it answers is the verdict on the fields from its place on. No public function has a `requires`.
+#![tactic(auto)]
+
 ghost use Rattle.std.specs.Prelude.{drop};
 ghost use Rattle.exact.specs.Field.{shift};
 ghost use Rattle.fields.specs.BlockFields.{block as block_field, from_command, from_family, command_rest, local as under_local};

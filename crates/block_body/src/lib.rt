@@ -1,5 +1,7 @@
 // What the length of a version 2 header frames (document 01, "The binary block"): a block that is not looked at, or the address block and the TLVs
 // behind it. What a stage answers is the verdict on the fields from its place on. No public function has a `requires`.
+#![tactic(auto)]
+
 ghost use Rattle.std.specs.Prelude.{◌≡◌, true, List, ℕ, ◌≤◌, ◌<◌, length, drop, take};
 ghost use Rattle.exact.specs.Claim.{accepted as accepted_of};
 ghost use Rattle.exact.specs.Field.{shift};

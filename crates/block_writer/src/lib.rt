@@ -1,4 +1,6 @@
 // The version 2 writer (document 01, "The binary block"). No public function has a `requires`.
+#![tactic(auto)]
+
 ghost use Rattle.std.specs.Prelude.{◌≡◌, ◌+◌, length};
 ghost use Rattle.answer.specs.Answers.{told_written, sized_answer, output_after};
 ghost use Rattle.block_writer.specs.Areas.{area_test};

@@ -1,5 +1,7 @@
 // Judges a list of cases on standard input, each three bytes of length (high first) and so many bytes, at most 65,536, and writes an
 // answer line for each. For comparisons: many inputs in one process.
+#![tactic(auto)]
+
 ghost use Rattle.std.specs.Prelude.{◌<◌};
 
 use libc::STDIN_FILENO;

@@ -1,5 +1,7 @@
 // Checked reading: the plain reader's answer, and what the checksum TLV of a header says of it (document 02, K6).
 // No public function has a `requires`.
+#![tactic(auto)]
+
 ghost use Rattle.std.specs.Prelude.{◌≡◌, take, drop};
 ghost use Rattle.lent.specs.Same.{same};
 ghost use Rattle.tlv.specs.Listed.{tlvs_of};

@@ -1,4 +1,6 @@
 // The version 2 writer that adds a checksum (document 02, K6). No public function has a `requires`.
+#![tactic(auto)]
+
 ghost use Rattle.std.specs.Prelude.{◌≡◌, length};
 ghost use Rattle.answer.specs.Answers.{told_written, output_after};
 ghost use Rattle.checked_writer.specs.Written.{request_test, written_checked, checked_answer, header_text, header_answer};

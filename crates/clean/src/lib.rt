@@ -1,4 +1,6 @@
 // Whether what a kind does not use is zero, and the checksum state may stand beside it. No public function has a `requires`.
+#![tactic(auto)]
+
 ghost use Rattle.std.specs.Prelude.{◌≡◌, true, drop};
 ghost use Rattle.record.specs.Records.{Clean, Plain};
 ghost use Rattle.clean.specs.Unused.{zeros, clean_port, is_absent, clean_state, clean_test, plain_test};

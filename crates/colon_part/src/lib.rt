@@ -1,5 +1,7 @@
 // The colon part of IPv6 text, as document 01 has it ("The text line"): what may stand behind a group, or at the start of an address.
 // No public function has a `requires`.
+#![tactic(auto)]
+
 ghost use Rattle.std.specs.Prelude.{◌≡◌, ◌<◌};
 ghost use Rattle.colon_part.specs.Part.{least_counted, behind_double, behind_colon, part_at};
 

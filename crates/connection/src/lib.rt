@@ -1,6 +1,8 @@
 // A connection, as C callers hold a record: the stored form's kind code, two addresses of 108 bytes, two ports, high byte first, and the checksum
 // state.
 // No public function has a `requires`.
+#![tactic(auto)]
+
 ghost use Rattle.std.specs.Prelude.{◌≡◌, ◌+◌, ◌≤◌, length};
 ghost use Rattle.record.specs.Records.{held, record_of, with_checksum};
 ghost use Rattle.lent.specs.Placed.{placed};

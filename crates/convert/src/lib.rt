@@ -1,4 +1,6 @@
 // Moving a stored form to the other version (document 02, K7). No public function has a `requires`.
+#![tactic(auto)]
+
 ghost use Rattle.std.specs.Prelude.{◌≡◌, length};
 ghost use Rattle.answer.specs.Answers.{output_after};
 ghost use Rattle.stored_form.specs.Converting.{converted, convert_answer, told_converted, LoadThenStore, GoesBack};

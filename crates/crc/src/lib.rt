@@ -1,4 +1,6 @@
 // CRC32C: the register goes through the bytes eight at a time, each half byte by a row of the table. No public function has a `requires`.
+#![tactic(auto)]
+
 ghost use Rattle.std.specs.Prelude.{◌≡◌, ◌+◌, ◌*◌, ◌%◌, ◌≤◌, ◌<◌, length, take, drop};
 ghost use Rattle.std.specs.Int.Bits.{bit_xor};
 ghost use Rattle.crc.specs.Crc.{bits, byte, register, checksum, cleared};

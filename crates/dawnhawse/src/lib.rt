@@ -1,5 +1,7 @@
 // The C library: the readers and writers for C callers, over numbers and bytes (include/dawnhawse.h). A static library exports the functions of
 // its own crate only, so each stands here and passes on to an interface crate or to `crc`. No public function has a `requires`.
+#![tactic(auto)]
+
 mod crc32c;
 mod doorman;
 mod read;

@@ -1,5 +1,7 @@
 // Text composed in lent bytes: each function puts its text from a place on, as far as there is room, and answers the place behind what it put. No public
 // function has a `requires`.
+#![tactic(auto)]
+
 ghost use Rattle.std.specs.Prelude.{◌≡◌, [], ◌∷◌, ◌≤◌, ◌<◌};
 ghost use Rattle.draft.specs.Numeral.{digit as digit_of, numeral, decimal_text, hex_text, joined};
 ghost use Rattle.draft.specs.Drafts.{drafted, appended};

@@ -1,5 +1,7 @@
 // Verdicts on the fields of a header. The definitions and laws are in specs/; here is what a scan of one field answers, and the literal field.
 // No public function has a `requires`.
+#![tactic(auto)]
+
 ghost use Rattle.std.specs.Prelude.{◌≡◌, ℕ};
 ghost use Rattle.exact.specs.Claim.{Claim};
 ghost use Rattle.exact.specs.Valueless.{Valueless};

@@ -1,4 +1,6 @@
 // The sixteen bytes before a block, put into an output (document 01, "The binary block"). No public function has a `requires`.
+#![tactic(auto)]
+
 ghost use Rattle.std.specs.Prelude.{◌≡◌};
 ghost use Rattle.lent.specs.Placed.{placed};
 ghost use Rattle.head_writer.specs.Head.{command_of, head_of};

@@ -1,4 +1,6 @@
 // Hex digits, by look-up. No public function has a `requires`.
+#![tactic(auto)]
+
 ghost use Rattle.std.specs.Prelude.{◌≡◌};
 ghost use Rattle.hex_digits.specs.Table.{HexTable, looked};
 

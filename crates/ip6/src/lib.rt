@@ -3,6 +3,8 @@
 //
 // An address so far is the first count of its groups, with zeros behind them. "::" counts as one group, a zero; gap counts the groups up to
 // and with it, and is 0 while it has not come.
+#![tactic(auto)]
+
 ghost use Rattle.std.specs.Prelude.{◌≡◌, ℕ, ◌+◌, ◌^◌, ◌<◌, length};
 ghost use Rattle.exact.specs.Claim.{Claim};
 ghost use Rattle.exact.specs.Ended.{Ended};

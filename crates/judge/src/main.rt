@@ -1,5 +1,7 @@
 // Reads at most 65,536 bytes of standard input, judges just those, and writes one line: `more`, `refused 3 at 13`, or
 // `accepted 47 ip4-stream`.
+#![tactic(auto)]
+
 use libc::STDIN_FILENO;
 
 fn main() {

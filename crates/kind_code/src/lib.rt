@@ -1,4 +1,6 @@
 // The kind codes of the stored form and of C connections, and the bytes of a checksum state. No public function has a `requires`.
+#![tactic(auto)]
+
 ghost use Rattle.std.specs.Prelude.{◌≡◌};
 ghost use Rattle.record.specs.KnownFamily.{told_family};
 ghost use Rattle.kind_code.specs.Codes.{code_of, kind_of};
@@ -46,7 +48,7 @@ pub fn kind_of(code: u8) -> Family
 }
 
 // What a byte says of a checksum state.
-#[derive(Drop)]
+#[derive(Clone, Copy)]
 pub enum State {
     Known(Checksum),
     Unknown,

@@ -1,4 +1,6 @@
 // Lent bytes: parts of them, cut at their end, whether two are the same, and bytes put into them. No public function has a `requires`.
+#![tactic(auto)]
+
 ghost use Rattle.std.specs.Prelude.{◌≡◌, ◌+◌, ◌≤◌, min, length, take, drop};
 ghost use Rattle.std.proofs.Math.Seq.{paste};
 ghost use Rattle.lent.specs.Placed.{placed};

@@ -1,4 +1,6 @@
 // The addresses of a TCP line: IPv4 or IPv6 text that a space ends, as the bytes of the address. No public function has a `requires`.
+#![tactic(auto)]
+
 ghost use Rattle.std.specs.Prelude.{◌≡◌, ℕ, ◌/◌, ◌%◌};
 ghost use Rattle.header.specs.Line.{group_bytes};
 ghost use Rattle.fields.specs.Exactness.{address4 as field_of4, address6 as field_of6};

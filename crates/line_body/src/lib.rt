@@ -1,5 +1,7 @@
 // A version 1 line behind "TCP" or "UNKNOWN", a field at a time: a stage stands at a place of the bytes, reads its field, and hands on to the next.
 // No public function has a `requires`.
+#![tactic(auto)]
+
 ghost use Rattle.std.specs.Prelude.{◌≡◌, ◌≤◌, length, drop, take};
 ghost use Rattle.exact.specs.Field.{shift};
 ghost use Rattle.fields.specs.LineFields.{lined, line_feed, from_destination_port, from_source_port, from_destination, from_source, unknown_end, families, from_rest};

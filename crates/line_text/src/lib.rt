@@ -1,4 +1,6 @@
 // The version 1 line of a record, as text (document 01, "The text line"). No public function has a `requires`.
+#![tactic(auto)]
+
 ghost use Rattle.std.specs.Prelude.{◌≡◌};
 ghost use Rattle.draft.specs.Drafts.{drafted, appended};
 ghost use Rattle.address_text.specs.Addresses.{address_text};

@@ -1,4 +1,6 @@
 // The version 1 writer (document 01, "The text line"). No public function has a `requires`.
+#![tactic(auto)]
+
 ghost use Rattle.std.specs.Prelude.{◌≡◌, length};
 ghost use Rattle.answer.specs.Answers.{told_written, output_after};
 ghost use Rattle.line_text.specs.LineText.{written_line};

@@ -1,4 +1,6 @@
 // The reader of the stored form, versions 1 and 2 (document 01, "Stored form, version 1"; document 02, K7). No public function has a `requires`.
+#![tactic(auto)]
+
 ghost use Rattle.std.specs.Prelude.{◌≡◌, ◌≤◌, length};
 ghost use Rattle.kind_code.specs.States.{told_state};
 ghost use Rattle.stored_form.specs.Heads.{head_length, state_in};

@@ -1,5 +1,7 @@
 // Lookup: the first TLV of a type in a TLV area, of which at most as many TLVs are examined as a limit says.
 // No public function has a `requires`.
+#![tactic(auto)]
+
 ghost use Rattle.lookup.specs.Lookup.{LooksUp};
 
 use exact::number;

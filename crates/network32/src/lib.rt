@@ -1,4 +1,6 @@
 // A 32-bit number in network order. No public function has a `requires`.
+#![tactic(auto)]
+
 ghost use Rattle.std.specs.Prelude.{◌≡◌, [], ◌∷◌};
 ghost use Rattle.network32.specs.Network32.{network32, number32_at};
 

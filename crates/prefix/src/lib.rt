@@ -1,5 +1,7 @@
 // A row of a prefix table (document 02, K14): whether its prefix is good, whether it is that of another row, and whether a source lies in it.
 // Each function looks at the row that the bytes begin with; behind their end it takes zeros. No public function has a `requires`.
+#![tactic(auto)]
+
 ghost use Rattle.std.specs.Prelude.{◌≡◌};
 ghost use Rattle.prefix.specs.Prefix.{row_of};
 ghost use Rattle.prefix.specs.PrefixTests.{bits_fit, good_prefix, same_prefix, matches as matches_bits};

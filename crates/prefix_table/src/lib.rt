@@ -1,4 +1,6 @@
 // Prefix tables (document 02, K14): whether a table is good, and the level that it gives a source. No public function has a `requires`.
+#![tactic(auto)]
+
 ghost use Rattle.std.specs.Prelude.{◌≡◌};
 ghost use Rattle.prefix.specs.Prefix.{row_of};
 ghost use Rattle.prefix_table.specs.Table.{rows_of};

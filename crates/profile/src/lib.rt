@@ -1,4 +1,6 @@
 // What the profile of document 02, K14, says of a header, with the level of its source. No public function has a `requires`.
+#![tactic(auto)]
+
 ghost use Rattle.std.specs.Prelude.{◌≡◌, length, drop};
 ghost use Rattle.prefix_table.specs.Table.{rows_of};
 ghost use Rattle.prefix_table.specs.TableTests.{level_in};

@@ -1,4 +1,6 @@
 // What C callers are told of received bytes and of stored ones. No public function has a `requires`.
+#![tactic(auto)]
+
 ghost use Rattle.fields.specs.Exactness.{verdict as verdict_on};
 ghost use Rattle.stored_form.specs.Loading.{load_answer};
 ghost use Rattle.checksum.specs.State.{checked_verdict};

@@ -1,4 +1,6 @@
 // The reader of PROXY protocol headers of both versions: what lent received bytes are. No public function has a `requires`.
+#![tactic(auto)]
+
 ghost use Rattle.std.specs.Prelude.{◌≡◌};
 ghost use Rattle.fields.specs.Exactness.{verdict as verdict_on};
 ghost use Rattle.answer.specs.Sight.{record_by, reading_of, caller_by};

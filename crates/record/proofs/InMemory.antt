@@ -1,6 +1,6 @@
 -- Every record in memory is `Sized`: two arrays of 108 bytes, and ports of 16 bits. A proof has `Is the_row r vs` of a parameter r as `c.good`.
-use mathlib.Core.Path.{◌≡◌, subst}
-use mathlib.Core.List.{List, [], ◌∷◌, map, map-id}
+use mathlib.Core.Path.{◌≡◌}
+use mathlib.Core.List.{List, [], ◌∷◌}
 use Prim.Native.Nat.{ℕ}
 use mir.Syntax.{w8}
 use mir.Val.{Val}
@@ -19,10 +19,8 @@ all_bytes [] us h = tt
 all_bytes (x ∷ xs) [] h = absurd h
 all_bytes (x ∷ xs) (u ∷ us) h = (h.0.1, all_bytes xs us h.1)
 
-address : (xs : List ℕ) (vs : List Val) → Is (Array (UInt w8) 108) (map (λ (x : ℕ). x) xs) vs → (length xs ≡ 108) × AllBytes xs
-address xs vs p =
-    let q : Is (Array (UInt w8) 108) xs vs = subst (λ (l : List ℕ). Is (Array (UInt w8) 108) l vs) (map-id xs) p in
-    (q.1.0.1, all_bytes xs q.0 q.1.1)
+address : (xs : List ℕ) (vs : List Val) → Is (Array (UInt w8) 108) xs vs → (length xs ≡ 108) × AllBytes xs
+address xs vs p = (p.1.0.1, all_bytes xs p.0 p.1.1)
 
 pub in_memory : (r : Record) (vs : List Val) → Is the_row r vs → Sized r
 in_memory r vs p =

@@ -1,19 +1,21 @@
 // The record: a kind, two addresses, two ports (document 01, "The record") and a checksum state (document 02, K6).
 // No public function has a `requires`.
+#![tactic(auto)]
+
 ghost use Rattle.std.specs.Prelude.{◌≡◌};
 ghost use Rattle.record.specs.KnownFamily.{told_family};
 ghost use Rattle.record.specs.Records.{record_with, with_checksum, bare};
 ghost use Rattle.record.specs.Kinds.{family, byte_of, address_length, port_length, block_length};
 
 // How a connection carries its bytes.
-#[derive(Drop)]
+#[derive(Clone, Copy)]
 pub enum Transport {
     Stream,
     Datagram,
 }
 
 // "The kind is local, unspecified, IPv4, IPv6 or UNIX, and the last three carry their transport."
-#[derive(Drop)]
+#[derive(Clone, Copy)]
 pub enum Kind {
     Local,
     Unspecified,
@@ -23,14 +25,14 @@ pub enum Kind {
 }
 
 // "The record gains a checksum state: absent, or matched."
-#[derive(Drop)]
+#[derive(Clone, Copy)]
 pub enum Checksum {
     Absent,
     Matched,
 }
 
 // Addresses of 4, 16 or 108 bytes are held by value, at the front of their array; bytes and ports that the kind does not use are zero.
-#[derive(Drop)]
+#[derive(Clone, Copy)]
 pub struct Record {
     pub kind: Kind,
     pub source: [u8; 108],
@@ -86,7 +88,7 @@ pub fn blank(kind: Kind) -> Record
 }
 
 // What a byte says of a kind: byte 13 under PROXY, or a kind code.
-#[derive(Drop)]
+#[derive(Clone, Copy)]
 pub enum Family {
     Known(Kind),
     Unknown,

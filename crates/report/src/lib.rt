@@ -1,4 +1,6 @@
 // The program's answer line. No public function has a `requires`.
+#![tactic(auto)]
+
 ghost use Rattle.std.specs.Prelude.{◌≡◌, ◌≤◌, length};
 ghost use Rattle.record.specs.Kinds.{transport_word, kind_word};
 ghost use Rattle.draft.specs.Drafts.{drafted, appended};

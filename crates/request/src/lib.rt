@@ -1,4 +1,6 @@
 // What the bytes of a connection ask of a writer. No public function has a `requires`.
+#![tactic(auto)]
+
 ghost use Rattle.std.specs.Prelude.{◌≡◌, ◌+◌, ◌≤◌, length, take, drop};
 ghost use Rattle.request.specs.Request.{given_record, request as request_of};
 ghost use Rattle.connection.specs.Connection.{connection_size};

@@ -1,4 +1,6 @@
 // The value of TLV 0x20 for C callers: what it says, and its writer (document 02, K2). No public function has a `requires`.
+#![tactic(auto)]
+
 ghost use Rattle.std.specs.Prelude.{◌≡◌};
 ghost use Rattle.ssl_reader.specs.Ssl.{said_in};
 ghost use Rattle.ssl_reader.specs.Told.{told_part, part_start, part_size, told_outcome, told_ssl};

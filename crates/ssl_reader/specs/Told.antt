@@ -44,6 +44,6 @@ bytes_of value p = take (part_size p) (drop (part_start p) value)
 -- "as a part of the lent bytes": it starts so far into the value's memory, though not beyond its end, and has those bytes
 abbrev pub PartOf : Bor (List ℕ) → Option Part → Bor (List ℕ) → Type 0
 PartOf value p part =
-    (part.ptr.0 ≡ value.ptr.0)
-    × (part.ptr.1 ≡ value.ref_ptr.1 + min (part_start p) (length value.now))
+    (part.ref_ptr.0 ≡ value.ref_ptr.0)
+    × (part.ref_ptr.1 ≡ value.ref_ptr.1 + min (part_start p) (length value.now))
     × (part.now ≡ bytes_of value.now p)

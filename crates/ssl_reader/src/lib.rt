@@ -1,4 +1,6 @@
 // The inside of TLV 0x20 (document 02, K2): what a TLS front end said of its client. No public function has a `requires`.
+#![tactic(auto)]
+
 ghost use Rattle.std.specs.Prelude.{◌≡◌, ◌<◌, length, replicate};
 ghost use Rattle.std.proofs.Math.Option.{none};
 ghost use Rattle.ssl_reader.specs.Ssl.{is_absent, lacks_version, said_in};
@@ -10,14 +12,14 @@ use network32::network_number;
 use tlv_step::{Shown, head_at};
 
 // The first sub-TLV of a type: where its value starts in the value of TLV 0x20, and its length; or that there is none. Empty is not absent.
-#[derive(Drop)]
+#[derive(Clone, Copy)]
 pub enum Piece {
     Absent,
     Part { start: usize, length: usize },
 }
 
 // Whether the value was read, or why not: document 02's numbers 19 and 20.
-#[derive(Drop)]
+#[derive(Clone, Copy)]
 pub enum Outcome {
     Accepted,
     IllFormed,
@@ -25,7 +27,7 @@ pub enum Outcome {
 }
 
 // What a value says: types 0x21 to 0x25 are the five pieces. Where it is not accepted, client and verify are 0 and each piece is absent.
-#[derive(Drop)]
+#[derive(Clone, Copy)]
 pub struct Ssl {
     pub outcome: Outcome,
     pub client: u8,

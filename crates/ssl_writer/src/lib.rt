@@ -1,4 +1,6 @@
 // The writer of TLV 0x20's value (document 02, K2). No public function has a `requires`.
+#![tactic(auto)]
+
 ghost use Rattle.std.specs.Prelude.{◌≡◌, ◌+◌, ◌≤◌, min, length};
 ghost use Rattle.answer.specs.Answers.{told_written};
 ghost use Rattle.ssl_writer.specs.Written.{pieces_of};
@@ -12,7 +14,7 @@ use ssl_reader::lacks_version;
 use tlv_writer::put_tlv;
 
 // Which pieces are there.
-#[derive(Drop)]
+#[derive(Clone, Copy)]
 pub struct Present {
     pub version: bool,
     pub common_name: bool,
@@ -22,7 +24,7 @@ pub struct Present {
 }
 
 // How many bytes each piece has.
-#[derive(Drop)]
+#[derive(Clone, Copy)]
 struct Sizes {
     version: usize,
     common_name: usize,

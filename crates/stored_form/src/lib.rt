@@ -1,5 +1,7 @@
 // The stored form of a record, versions 1 and 2 (document 01, "Stored form, version 1"; document 02, K7): what the head of a version has, and what is
 // answered of stored bytes. `store` writes them, `load` reads them, `convert` moves them to the other version. No public function has a `requires`.
+#![tactic(auto)]
+
 ghost use Rattle.std.specs.Prelude.{◌≡◌};
 ghost use Rattle.stored_form.specs.Heads.{version_byte, head_length, keeps_test};
 ghost use Rattle.stored_form.specs.Loading.{flaw_number};
@@ -9,7 +11,7 @@ use clean::is_absent;
 use record::{Checksum, Record};
 
 // The versions of the stored form.
-#[derive(Drop)]
+#[derive(Clone, Copy)]
 pub enum StoredVersion {
     One,
     Two,
@@ -46,7 +48,7 @@ pub fn keeps(version: StoredVersion, checksum: Checksum) -> bool
 }
 
 // Why stored bytes are not a record: document 01's numbers 15 to 18, and document 02's 24.
-#[derive(Drop)]
+#[derive(Clone, Copy)]
 pub enum Flaw {
     Mark,
     Version,
@@ -56,21 +58,21 @@ pub enum Flaw {
 }
 
 // What stored bytes are: a record, or why they are none.
-#[derive(Drop)]
+#[derive(Clone, Copy)]
 pub enum Outcome {
     Accepted,
     Refused(Flaw),
 }
 
 // An outcome, and the record; where the bytes are refused, the record is unspecified.
-#[derive(Drop)]
+#[derive(Clone, Copy)]
 pub struct Loaded {
     pub outcome: Outcome,
     pub record: Record,
 }
 
 // What a conversion answers: as the writer of the other version does, or why its input is no stored form.
-#[derive(Drop)]
+#[derive(Clone, Copy)]
 pub enum Converted {
     Stored(Written),
     Invalid(Flaw),

@@ -1,5 +1,7 @@
 // TLV areas: bytes that TLVs fill, each a type, two length bytes (high first) and a value.
 // No public function has a `requires`.
+#![tactic(auto)]
+
 ghost use Rattle.std.specs.Prelude.{◌≡◌, true, ◌⊎◌, ℕ, ◌≤◌};
 ghost use Rattle.exact.specs.Claim.{Claim};
 ghost use Rattle.exact.specs.Valueless.{Valueless};

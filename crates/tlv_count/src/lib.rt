@@ -1,4 +1,6 @@
 // How many TLVs of a type an area has. No public function has a `requires`.
+#![tactic(auto)]
+
 ghost use Rattle.std.specs.Prelude.{◌≡◌};
 ghost use Rattle.tlv_count.specs.Count.{Counts, none_test};
 

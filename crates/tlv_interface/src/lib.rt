@@ -1,4 +1,6 @@
 // Looking into a TLV area, as C callers ask for it. No public function has a `requires`.
+#![tactic(auto)]
+
 ghost use Rattle.std.specs.Prelude.{◌≡◌, ◌+◌, ◌≤◌, drop};
 ghost use Rattle.tlv.specs.Tlv.{WellFormed};
 ghost use Rattle.tlv_step.specs.Step.{told_step, head_at, step_at, start_of, length_of};

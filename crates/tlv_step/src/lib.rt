@@ -1,4 +1,6 @@
 // One step over a TLV area, on the slice and a place (document 01, "Looking into TLVs"). No public function has a `requires`.
+#![tactic(auto)]
+
 ghost use Rattle.std.specs.Prelude.{◌≡◌, drop};
 ghost use Rattle.tlv.specs.Tlv.{WellFormed};
 ghost use Rattle.tlv_step.specs.Step.{told_step, head_at, step_at, ValuePart, place_after, within};
@@ -6,7 +8,7 @@ ghost use Rattle.tlv_step.specs.Step.{told_step, head_at, step_at, ValuePart, pl
 use exact::number;
 
 // What a step shows: a TLV's type, where its value starts in the area and its length; or the end; or the refusal, 12.
-#[derive(Drop)]
+#[derive(Clone, Copy)]
 pub enum Shown {
     Tlv {
         tlv_type: u8,

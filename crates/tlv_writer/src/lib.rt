@@ -1,4 +1,6 @@
 // One TLV, put into an output. No public function has a `requires`.
+#![tactic(auto)]
+
 ghost use Rattle.std.specs.Prelude.{◌≡◌, length};
 ghost use Rattle.tlv_writer.specs.Put.{tlv_placed, place_behind};
 

@@ -1,4 +1,6 @@
 // The unique ID of a TLV area (document 02, K14): its only TLV 0x05. No public function has a `requires`.
+#![tactic(auto)]
+
 ghost use Rattle.std.specs.Prelude.{◌≡◌};
 ghost use Rattle.unique_id.specs.UniqueId.{told_id, id_in};
 

@@ -1,12 +1,14 @@
 // A walker over a TLV area: it holds the lent area itself and its place in it. The work is in `tlv_step`, on the slice and
 // the place; the functions over the walker are thin. No public function has a `requires`.
+#![tactic(auto)]
+
 ghost use Rattle.std.specs.Prelude.{◌≡◌};
 ghost use Rattle.tlv_step.specs.Step.{told_step, step_at, ValuePart, place_after};
 
 use tlv_step::{Shown, place_of, step_at, value_of};
 
 // A walker holds the lent area itself and its place in it.
-#[derive(Drop)]
+#[derive(Clone, Copy)]
 pub struct Walker<'a> {
     pub area: &'a [u8],
     pub at: usize,

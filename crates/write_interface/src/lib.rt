@@ -1,5 +1,7 @@
 // Writing for C callers: a line, a header or a stored form from the bytes of a connection, or a stored form from that of another version. No public
 // function has a `requires`.
+#![tactic(auto)]
+
 ghost use Rattle.record.specs.declared.Record.{Record};
 ghost use Rattle.line_text.specs.LineText.{written_line};
 ghost use Rattle.line_writer.specs.Written.{line_answer};

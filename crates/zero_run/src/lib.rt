@@ -1,4 +1,6 @@
 // The run of zero groups in an IPv6 address that "::" takes the place of (document 02, K3). No public function has a `requires`.
+#![tactic(auto)]
+
 ghost use Rattle.std.specs.Prelude.{◌≡◌};
 ghost use Rattle.zero_run.specs.ZeroRun.{longest_run};
 
