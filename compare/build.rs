@@ -1,4 +1,4 @@
-//! Links the proved library, which `rt staticlib dawnhawse` writes.
+//! Links the proved library, which `./library` writes.
 fn main() {
     let folder = concat!(env!("CARGO_MANIFEST_DIR"), "/../target/staticlib");
     println!("cargo:rustc-link-search=native={folder}");
