@@ -4,7 +4,8 @@
 
 ghost use Rattle.std.specs.Prelude.{◌<◌};
 
-use libc::STDIN_FILENO;
+use std::io;
+use std::io::{Read, Write};
 
 // The length that three bytes say.
 fn length_of(head: [u8; 3]) -> usize {
@@ -18,33 +19,35 @@ fn wide(x: u8) -> usize
 }
 
 // One case, read into the buffer; false where there is none, or none whole that fits.
-fn judge_one(buffer: &mut [u8]) -> bool {
+fn judge_one<R: Read, W: Write>(
+    reader: &mut R,
+    writer: &mut W,
+    buffer: &mut [u8],
+) -> io::Result<bool> {
     let mut head = [0u8; 3];
-    let got = io::read_full(STDIN_FILENO, &mut head);
+    let got = report::read_full(reader, &mut head)?;
     if got < 3 {
-        return false;
+        return Ok(false);
     }
     let n = length_of(head);
     if buffer.len() < n {
-        return false;
+        return Ok(false);
     }
-    let m = io::read_full(STDIN_FILENO, &mut buffer[..n]);
+    let m = report::read_full(reader, &mut buffer[..n])?;
     if m < n {
-        return false;
+        return Ok(false);
     }
-    report::print_reading(reader::read(&buffer[..n]));
-    true
+    report::print_reading(writer, reader::read(&buffer[..n]))?;
+    Ok(true)
 }
 
-fn main() {
-    let mut buffer = io::large_buffer();
+fn main(rt: HostRuntime) -> io::Result<()> {
+    let mut buffer = [0u8; 65536];
     // More cases than anybody can send: a loop needs an end.
-    let mut left: u64 = 0xFFFF_FFFF_FFFF_FFFF;
-    while 0 < left {
-        if judge_one(&mut buffer) {
-            left -= 1;
-        } else {
-            left = 0;
+    for _ in 0..u64::MAX {
+        if !judge_one(&mut rt.stdin(), &mut rt.stdout(), &mut buffer)? {
+            break;
         }
     }
+    Ok(())
 }

@@ -18,7 +18,7 @@ use Rattle.record.specs.Records.{record_of, bare, PortFits}
 use Rattle.header.specs.Block.{signature, LOCAL, PROXY, LocalBlock, HasAddresses, port_bytes, Addresses, Block}
 use Rattle.header.specs.Header.{Header}
 use Rattle.fields.specs.Lengths.{fits, either_fits}
-use Rattle.fields.specs.BlockFields.{blocked, Command, local, proxy, command_of, skipped, port, tlvs, area, addresses, addressed, family_rest, command_rest, block}
+use Rattle.fields.specs.BlockFields.{blocked, Command, local, proxy, command_of, skipped, port, tlvs, area, addressed, family_rest, command_rest, block}
 use Rattle.fields.specs.BlockMembers.{Addressed, Blocked, Skipped}
 
 -- ── the members ──

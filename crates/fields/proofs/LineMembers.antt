@@ -4,7 +4,6 @@ use Rattle.std.proofs.Common.{sym, ap, ap₂, ◌∙◌, subst, append_assoc, ap
 use Rattle.std.proofs.Math.Seq.{append_snoc}
 use Rattle.exact.specs.Ascii.{ascii}
 use Rattle.exact.specs.Ended.{Ended}
-use Rattle.exact.specs.LiteralLaws.{text}
 use Rattle.line_end.specs.Line.{FirstEnd}
 use Rattle.record.specs.declared.Transport.TheVariants.{Stream}
 use Rattle.record.specs.declared.Kind.{Kind}

@@ -7,7 +7,7 @@ use Rattle.record.specs.declared.Kind.{Kind}
 use Rattle.record.specs.declared.Record.{Record}
 use Rattle.header.specs.Block.{Addresses, Block}
 use Rattle.header.specs.Header.{Header}
-use Rattle.fields.specs.BlockFields.{blocked, tlvs, area, addresses, block}
+use Rattle.fields.specs.BlockFields.{blocked}
 
 -- ── the members ──
 -- the length and a block that is not looked at

@@ -2,10 +2,10 @@
 // `accepted 47 ip4-stream`.
 #![tactic(auto)]
 
-use libc::STDIN_FILENO;
+use std::io;
 
-fn main() {
-    let mut buffer = io::large_buffer();
-    let n = io::read_full(STDIN_FILENO, &mut buffer);
-    report::print_reading(reader::read(&buffer[..n]));
+fn main(rt: HostRuntime) -> io::Result<()> {
+    let mut buffer = [0u8; 65536];
+    let n = report::read_full(&mut rt.stdin(), &mut buffer)?;
+    report::print_reading(&mut rt.stdout(), reader::read(&buffer[..n]))
 }

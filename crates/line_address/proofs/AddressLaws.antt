@@ -12,7 +12,7 @@ use Rattle.exact.specs.Scans.{heard, ZeroUnless}
 use Rattle.ip6.specs.Bounds.{address_bounds}
 use Rattle.header.specs.Line.{group_bytes}
 use Rattle.fields.specs.Exactness.{address4, groups, address6}
-use Rattle.line_address.specs.Families.{told_bytes, padded, Unused, field}
+use Rattle.line_address.specs.Families.{told_bytes, padded, Unused}
 
 -- an accepted IPv4 address has four octets
 octets_four : (m : ℕ) (s octets : List ℕ) (n : ℕ) → accepted octets n ≡ (address4 m).verdict s → length octets ≡ 4

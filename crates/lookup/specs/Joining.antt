@@ -1,5 +1,5 @@
 -- Joining TLV areas: document 02, K13. "Two suppliers append their areas": the join of the areas f and g is f ++ g, bytes behind bytes.
-use Rattle.std.specs.Prelude.{◌≡◌, List, [], ◌++◌, ℕ, ◌+◌, ◌-◌, length}
+use Rattle.std.specs.Prelude.{◌≡◌, List, [], ◌++◌, ℕ, ◌+◌, ◌-◌}
 use Rattle.lookup.specs.Lookup.{Finding, found, absent, gave_up, refused, Lookup}
 
 -- ── 3. "joining is associative with the empty area neutral": of areas, lists of bytes, and of their lists of TLVs ──

@@ -1,3 +1,4 @@
 pub mod Levels
 pub mod RowLaws
 pub mod TableLaws
+pub mod Far

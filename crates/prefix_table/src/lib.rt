@@ -64,7 +64,8 @@ pub fn level_of(table: &[u8], family: u8, source: &[u8]) -> u8
     while ROW <= table.len() - at {
         let row = behind(table, at);
         let next = byte_at(row, 1) as usize + 1;
-        if reach < next {
+        let further = reach < next;
+        if further {
             if matches(row, family, source) {
                 reach = next;
                 level = byte_at(row, 2);

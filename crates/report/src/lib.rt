@@ -1,15 +1,18 @@
-// The program's answer line. No public function has a `requires`.
+// The programs' input and their answer line, over any stream. No public function has a `requires`.
 #![tactic(auto)]
 
-ghost use Rattle.std.specs.Prelude.{◌≡◌, ◌≤◌, length};
+ghost use Rattle.std.specs.Prelude.{◌≡◌, ◌≤◌, length, take, IfOk, OnOk, IfSome};
+ghost use Rattle.std.specs.Io.{ReadsAtMost};
+ghost use Rattle.std.specs.Io.KnownBytes.{Appends, Consumes};
 ghost use Rattle.record.specs.Kinds.{transport_word, kind_word};
 ghost use Rattle.draft.specs.Drafts.{drafted, appended};
 ghost use Rattle.report.specs.Line.{answer_line};
 
 use answer::{Reading, Verdict};
 use draft::{push, push_decimal, push_word};
-use libc::STDOUT_FILENO;
 use record::{Kind, Transport};
+use std::io;
+use std::io::{Read, Write};
 
 fn push_transport(text: &mut [u8], at: usize, transport: Transport) -> usize
     ensures { drafted text.new result ≡ appended (drafted text.old at) (transport_word transport) }
@@ -71,9 +74,34 @@ pub fn answer_line(reading: Reading, text: &mut [u8]) -> usize
     }
 }
 
-// Writes the line to standard output, in one piece.
-pub fn print_reading(reading: Reading) {
+// Fills the buffer from the front, until it is full or the stream ends, and answers how many bytes it put. However the stream cuts its
+// bytes, those are its first ones. A read that fails ends it: what was put by then stays, and the buffer keeps its length.
+pub fn read_full<R: Read>(reader: &mut R, buffer: &mut [u8]) -> io::Result<usize>
+    ensures bound { ReadsAtMost result buffer.new }
+    ensures room { length buffer.new ≡ length buffer.old }
+    ensures first { IfOk result (λ n. IfSome (R.remaining reader.old)
+        (λ xs. take n buffer.new ≡ take (length buffer.old) xs)) }
+    ensures rest { IfOk result (λ n. Consumes (R.remaining reader.old) (R.remaining reader.new) (take n buffer.new)) }
+{
+    let mut at = 0;
+    while at < buffer.len() {
+        let n = reader.read(&mut buffer[at..])?;
+        if n == 0 {
+            break;
+        }
+        at += n;
+    }
+    Ok(at)
+}
+
+// Writes the line to a stream, in one piece.
+pub fn print_reading<W: Write>(writer: &mut W, reading: Reading) -> io::Result<()>
+    ensures { OnOk result (Appends (W.contents writer.old) (W.contents writer.new) (answer_line reading)) }
+{
     let mut text = [0u8; 44];
     let n = answer_line(reading, &mut text);
-    io::write_all(STDOUT_FILENO, &text[..n]);
+    writer.write_all(&text[..n])
 }
+
+#[cfg(test)]
+mod tests;

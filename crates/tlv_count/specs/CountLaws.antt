@@ -1,6 +1,5 @@
 -- Laws of counts: joined lists have the sum, and none is counted exactly if no TLV is of the type.
 use Rattle.std.specs.Prelude.{◌≡◌, ℕ}
-use mathlib.Core.List.Memᴰ
 use mathlib.Core.List.{List, Memᴰ}
 use Rattle.tlv.specs.Tlv.{Tlv}
 

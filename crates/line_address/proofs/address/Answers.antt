@@ -1,0 +1,8 @@
+-- Each family answers for itself.
+use Rattle.line_address.proofs.address.Goals as goal
+
+pub returns-then-six : goal.returns-then-six
+returns-then-six c = record { verdict = rw c.if-six.true c.address6.ensures.verdict; unused = rw c.if-six.true c.address6.ensures.unused }
+
+pub returns-else-six : goal.returns-else-six
+returns-else-six c = record { verdict = rw c.if-six.false c.address4.ensures.verdict; unused = rw c.if-six.false c.address4.ensures.unused }

@@ -1,0 +1,70 @@
+use super::{print_reading, read_full};
+use answer::{Reading, Verdict};
+use record::{Kind, Transport, blank};
+use std::io;
+use std::io::{Read, Write};
+
+// A stream that gives one byte a call, and fails behind the last where it is to.
+#[derive(Drop)]
+struct Scraps<'a> {
+    bytes: &'a [u8],
+    at: usize,
+    fails: bool,
+}
+
+impl Read for Scraps<'_> {
+    fn read(&mut self, buf: &mut [u8]) -> io::Result<usize> {
+        if self.at < self.bytes.len() && !buf.is_empty() {
+            buf[0] = self.bytes[self.at];
+            self.at += 1;
+            return Ok(1);
+        }
+        if self.fails {
+            Err(io::Error::from(io::ErrorKind::ConnectionReset))
+        } else {
+            Ok(0)
+        }
+    }
+}
+
+fn in_scraps(bytes: &[u8], fails: bool) -> Scraps<'_> {
+    Scraps {
+        bytes,
+        at: 0,
+        fails,
+    }
+}
+
+#[test]
+fn scraps_are_one_stream(rt: HostRuntime) -> io::Result<()> {
+    let mut buffer = [0u8; 16];
+    let n = read_full(&mut in_scraps(b"PROXY TCP4", false), &mut buffer)?;
+    assert!(rt; n == 10 && buffer[0] == b'P' && buffer[9] == b'4' && buffer[10] == 0);
+    Ok(())
+}
+
+// Bytes beyond the room are not read.
+#[test]
+fn only_the_room_is_read(rt: HostRuntime) -> io::Result<()> {
+    let mut stream = in_scraps(b"PROXY", false);
+    let n = read_full(&mut stream, &mut [0; 2])?;
+    assert!(rt; n == 2 && stream.at == 2);
+    Ok(())
+}
+
+#[test]
+fn a_failed_read_is_told(rt: HostRuntime) -> io::Result<()> {
+    let told = read_full(&mut in_scraps(b"P", true), &mut [0; 2]);
+    assert!(rt; told.is_err());
+    Ok(())
+}
+
+#[test]
+fn a_line_is_written(rt: HostRuntime) -> io::Result<()> {
+    let mut written = Vec::new(rt.alloc());
+    let verdict = Verdict::Accepted { length: 47, version: 1 };
+    let record = blank(Kind::Ip4(Transport::Stream));
+    print_reading(&mut written, Reading { verdict, record })?;
+    assert!(rt; written.as_slice() == b"accepted 47 ip4-stream\n".as_slice());
+    Ok(())
+}

@@ -1,0 +1,27 @@
+-- `well_formed` goes by what `region` ensures: bytes judged as an area of their own length are accepted exactly if they are well-formed.
+use Rattle.std.proofs.Common.{ℕ, ◌≡◌, refl, true, false, List, ◌↔◌, arith, length}
+use Rattle.exact.specs.Scans.{told}
+use Rattle.tlv.specs.Tlv.{WellFormed}
+use Rattle.tlv.specs.Whole.{Accepted}
+use Rattle.tlv.proofs.Whole.{judged}
+use Rattle.tlv.proofs.well_formed.Goals.{After-region}
+use Rattle.tlv.proofs.well_formed.Goals as goal
+
+module _ (c : After-region) where
+  abbrev area : List ℕ
+  area = c.args.s.now
+
+  says : Accepted (told 0 0 c.region.result) ↔ WellFormed area
+  says = rw (c.region.ensures.verdict 0 0) (judged 0 0 (length area) area refl)
+
+  denies : (Accepted (told 0 0 c.region.result) → ⊥) → (false ≡ true → WellFormed area) × (WellFormed area → false ≡ true)
+  denies not = (λ e. absurd (let z : ◌≡◌ {A = ℕ} 0 1 = cc in omega arith), λ w. absurd (not (says.1 w)))
+
+pub returns-in-Accepted : goal.returns-in-Accepted
+returns-in-Accepted c = (λ t. (says (goal.at.returns-in-Accepted c).After-region).0 (rw c.in-Accepted.is tt), λ w. refl)
+
+pub returns-in-More : goal.returns-in-More
+returns-in-More c = denies (goal.at.returns-in-More c).After-region (rw c.in-More.is (λ y. y))
+
+pub returns-in-Refused : goal.returns-in-Refused
+returns-in-Refused c = denies (goal.at.returns-in-Refused c).After-region (rw c.in-Refused.is (λ y. y))
