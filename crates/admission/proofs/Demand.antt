@@ -15,7 +15,7 @@ use Rattle.prefix_table.specs.TableTests.{good_table}
 use Rattle.prefix_table.proofs.TableLaws.{table_tested}
 use Rattle.prefix_table.proofs.Levels.{level_decides, decides_one, perm_good, perm_level, one_more_row, level_from}
 use Rattle.unique_id.specs.UniqueId.{identified}
-use Rattle.profile.specs.Profile.{Admission, admitted, more, refused, denied, Origin, local, stream, other, origin_of, if_short, by_origin, profile, SourceLevel, source_level}
+use Rattle.profile.specs.Profile.{Admission, admitted, more, denied, Origin, local, stream, other, origin_of, if_short, by_origin, profile, SourceLevel, source_level}
 use Rattle.admission.specs.Admits.{Admits, bad_table, unfinished, no_header, header, admission_by, admission}
 use Rattle.admission.specs.Demand.{FromRow, InPrefix, level_of}
 

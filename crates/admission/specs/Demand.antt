@@ -1,7 +1,6 @@
 -- What holds of the answer to all tables and all bytes (document 02, K14): one answer is claimed; bytes behind the header change none but "more"; the
 -- order of the rows does not matter; what one more row changes; where a level comes from; and that none is over 3.
 use Rattle.std.specs.Prelude.{◌≡◌, ◌⊎◌, ℕ}
-use mathlib.Core.List.Permᴰ
 use mathlib.Core.List.{List, Memᴰ}
 use Rattle.exact.specs.Claim as Claim
 use Rattle.header.specs.Header.{Header}

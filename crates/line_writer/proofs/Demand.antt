@@ -32,9 +32,13 @@ form_tested (Ip6 Datagram) e = never e
 form_tested (Unix t) e = never e
 
 form_test : (k : Kind) → HasForm k → has_form k ≡ true
+form_test Local x = elim x [ ]
 form_test Unspecified unspecified = refl
 form_test (Ip4 Stream) tcp4 = refl
+form_test (Ip4 Datagram) x = elim x [ ]
 form_test (Ip6 Stream) tcp6 = refl
+form_test (Ip6 Datagram) x = elim x [ ]
+form_test (Unix t) x = elim x [ ]
 
 -- the line is a whole header that says the record, with version 1 and no TLV area
 pub line_whole : (r : Record) → CarriedByLine r → Whole (written_line r) (lined r)

@@ -1,5 +1,5 @@
 -- What each answer tells C callers in numbers (document 01, "Numbered answers").
-use Rattle.std.specs.Prelude.{List, [], ◌∷◌, ℕ, ◌-◌, leb, length}
+use Rattle.std.specs.Prelude.{List, [], ◌∷◌, ℕ, ◌-◌, leb}
 use Rattle.exact.specs.Pick.{pick}
 use Rattle.record.specs.declared.Kind.{Kind}
 use Rattle.answer.specs.declared.Verdict.{Verdict}

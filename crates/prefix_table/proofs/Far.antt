@@ -1,5 +1,5 @@
 -- The longest prefix of the rows before a place, and what a row more makes of it.
-use Rattle.std.proofs.Common.{◌≡◌, refl, sym, ap, ◌∙◌, Bool, true, false, ◌&&◌, List, ℕ, suc, ◌+◌, ◌-◌, ◌≤◌, ◌<◌, arith, lt-ltb, le-ltb, ltb, length, drop, get_or, subst}
+use Rattle.std.proofs.Common.{◌≡◌, refl, sym, ap, ◌∙◌, Bool, true, false, ◌&&◌, List, ℕ, suc, ◌+◌, ◌-◌, ◌≤◌, ◌<◌, arith, lt-ltb, le-ltb, ltb, length, drop, get_or}
 use mathlib.Core.Option.{Option, some, none}
 use Rattle.exact.specs.Pick.{pick}
 use Rattle.prefix.specs.Prefix.{Prefix, row_of}

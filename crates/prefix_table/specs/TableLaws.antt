@@ -1,5 +1,4 @@
 -- The test of a table says no less and no more than `Good` (`table_tested`).
-use mathlib.Core.List.Memᴰ
 use mathlib.Core.List.{List, Memᴰ}
 use Rattle.prefix.specs.Prefix.{Prefix, SamePrefix}
 

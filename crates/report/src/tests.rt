@@ -62,7 +62,10 @@ fn a_failed_read_is_told(rt: HostRuntime) -> io::Result<()> {
 #[test]
 fn a_line_is_written(rt: HostRuntime) -> io::Result<()> {
     let mut written = Vec::new(rt.alloc());
-    let verdict = Verdict::Accepted { length: 47, version: 1 };
+    let verdict = Verdict::Accepted {
+        length: 47,
+        version: 1,
+    };
     let record = blank(Kind::Ip4(Transport::Stream));
     print_reading(&mut written, Reading { verdict, record })?;
     assert!(rt; written.as_slice() == b"accepted 47 ip4-stream\n".as_slice());

@@ -1,4 +1,4 @@
-use Rattle.std.proofs.Common.{◌≡◌, sym, ap, ap₂, ◌∙◌, Bool, not, ◌&&◌, List, ℕ, ◌+◌, ◌-◌, ◌/◌, ◌%◌, arith, eq-eqb, ne_eqb, le-leb, length, drop}
+use Rattle.std.proofs.Common.{◌≡◌, sym, ap, ap₂, ◌∙◌, Bool, not, ◌&&◌, List, ℕ, ◌+◌, ◌/◌, ◌%◌, arith, eq-eqb, ne_eqb, le-leb, length, drop}
 use borrow.Author.Tests.{lt-leb}
 use Rattle.prefix.specs.Prefix.{Prefix, row_of}
 use Rattle.prefix.specs.PrefixTests.{good_prefix}

@@ -1,4 +1,4 @@
-use Rattle.std.proofs.Common.{◌≡◌, sym, ap, ◌∙◌, Bool, ◌||◌, List, ℕ, ◌+◌, ◌-◌, arith, drop}
+use Rattle.std.proofs.Common.{◌≡◌, sym, ap, ◌∙◌, Bool, ◌||◌, List, ℕ, ◌+◌, arith, drop}
 use Rattle.prefix.specs.Prefix.{Prefix, row_of}
 use Rattle.prefix.specs.PrefixTests.{same_prefix}
 use Rattle.prefix_table.specs.Table.{rows_of}
