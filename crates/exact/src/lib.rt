@@ -41,7 +41,8 @@ pub fn literal(s: &[u8], w: &[u8]) -> Scan
     ensures claim { (k : ℕ) → Claim (Valueless (λ f. f ≡ w.now)) (λ u. k) (told k 0 result) s.now }
 {
     let n = common(s, w);
-    if n == w.len() {
+    let whole = n == w.len();
+    if whole {
         return Scan::Accepted(0, n);
     }
     if n == s.len() {

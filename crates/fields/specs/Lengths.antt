@@ -51,11 +51,26 @@ either_fits a n (inr h) =
     let other : n ≡ a → ⊥ = omega arith in
     simp (ne_eqb n a other, le-leb (a + 3) n h)
 
+-- of any rule "L must be A, or at least m"
+least_by : (a m n : ℕ) → a ≤ m → pick (eqb n a) true (leb m n) ≡ true → a ≤ n
+least_by a m n below = by (eqb n a) refl
+  where
+    by : (b : Bool) → eqb n a ≡ b → pick b true (leb m n) ≡ true → a ≤ n
+    by true e f = let same = eqb-true n a e in omega arith
+    by false e f = let more = leb-true m n f in omega arith
+
+lowest_by : (a m h : ℕ) → m ≤ 256 → pick (eqb (number h (lowest a h)) a) true (leb m (number h (lowest a h))) ≡ true
+lowest_by a m h small =
+    pick_by (λ (c : ℕ). pick (eqb (number h c) a) true (leb m (number h c)) ≡ true) (eqb h 0)
+    (λ e. let none = eqb-true h 0 e in let same : number h a ≡ a = omega arith in simp (eq-eqb (number h a) a same))
+    (λ e. let some = eqb-false h 0 e in by (eqb (number h 0) a) (le-leb m (number h 0) (omega arith)))
+  where
+    by : (b : Bool) {c : Bool} → c ≡ true → pick b true c ≡ true
+    by true e = refl
+    by false e = e
+
 pub fits_least : (a n : ℕ) → fits a n ≡ true → a ≤ n
-fits_least a n f = ⊎_elim (λ e. omega arith) (λ h. omega arith) (fits_either a n f)
+fits_least a n f = least_by a _ n (omega arith) f
 
 pub lowest-fits : (a h : ℕ) → a + 3 ≤ 256 → fits a (number h (lowest a h)) ≡ true
-lowest-fits a h small =
-    either_fits a (number h (lowest a h))
-    (pick_by (λ (c : ℕ). (number h c ≡ a) ⊎ (a + 3 ≤ number h c)) (eqb h 0)
-    (λ e. let none = eqb-true h 0 e in inl (omega arith)) (λ e. let some = eqb-false h 0 e in inr (omega arith)))
+lowest-fits a h small = lowest_by a _ h (omega arith)

@@ -102,7 +102,8 @@ fn group(
             groups[count] = v;
             return colon(s, at, end, table, groups, count + 1, gap, place);
         }
-        if n == 4 {
+        let full = n == 4;
+        if full {
             *place = at;
             return REFUSED;
         }

@@ -92,8 +92,8 @@ module _ (c : After-common-n) where
         (literal_exact k 0 (flat 0) word text),
   )
 
-pub returns-then-n-w : goal.returns-then-n-w
-returns-then-n-w c = let ran = (goal.at.returns-then-n-w c).After-common-n in let it = answered ran (λ k m. word_all k m (text ran) _ (word ran) ran.common-n.ensures c.if-n-w.true) in
+pub returns-then-whole : goal.returns-then-whole
+returns-then-whole c = let ran = (goal.at.returns-then-whole c).After-common-n in let it = answered ran (λ k m. word_all k m (text ran) _ (word ran) ran.common-n.ensures c.if-whole.true) in
     record { verdict = it.0; claim = it.1 }
 
 pub overflow_sub-result : goal.overflow_sub-result
@@ -102,11 +102,11 @@ overflow_sub-result c = c.common-n.ensures.inside_w
 pub returns-then-n-s : goal.returns-then-n-s
 returns-then-n-s c =
     let ran = (goal.at.returns-then-n-s c).After-common-n in
-    let it = answered ran (λ k m. word_more k m (text ran) _ (word ran) ran.common-n.ensures c.if-n-w.false c.if-n-s.true) in
+    let it = answered ran (λ k m. word_more k m (text ran) _ (word ran) ran.common-n.ensures c.if-whole.false c.if-n-s.true) in
     record { verdict = it.0; claim = it.1 }
 
 pub returns : goal.returns
 returns c =
     let ran = (goal.at.returns c).After-common-n in
-    let it = answered ran (λ k m. word_refused k m (text ran) _ (word ran) ran.common-n.ensures c.if-n-w.false c.if-n-s.false) in
+    let it = answered ran (λ k m. word_refused k m (text ran) _ (word ran) ran.common-n.ensures c.if-whole.false c.if-n-s.false) in
     record { verdict = it.0; claim = it.1 }

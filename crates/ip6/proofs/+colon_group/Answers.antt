@@ -77,21 +77,21 @@ group-returns-then-d-eq16 t c =
     c.loop-at.invariant.4 _ _
     (group_ends c.loop-at.invariant.3 c.requires.1 (inside t at) (is_none t at c.if-d-eq16.true) c.if-n-eq0.false c.colon.ensures)
 
-pub group-returns-then-n-eq4 : goal.group-returns-then-n-eq4
-group-returns-then-n-eq4 t c =
-    let at = (goal.at.group-returns-then-n-eq4 t c).After-hex_value-d in
-    c.loop-at.invariant.4 _ _ (group_long (inside t at) (is_digit t at c.if-d-eq16.false) c.if-n-eq4.true)
+pub group-returns-then-full : goal.group-returns-then-full
+group-returns-then-full t c =
+    let at = (goal.at.group-returns-then-full t c).After-hex_value-d in
+    c.loop-at.invariant.4 _ _ (group_long (inside t at) (is_digit t at c.if-d-eq16.false) c.if-full.true)
 
 pub group-overflow_mul-v : goal.group-overflow_mul-v
 group-overflow_mul-v t c =
     let at = (goal.at.group-overflow_mul-v t c).After-hex_value-d in
-    let a = digits_fit _ _ c.loop-at.invariant.2 (below t at c.if-n-eq4.false) in
+    let a = digits_fit _ _ c.loop-at.invariant.2 (below t at c.if-full.false) in
     omega arith
 
 pub group-overflow_add-v : goal.group-overflow_add-v
 group-overflow_add-v t c =
     let at = (goal.at.group-overflow_add-v t c).After-hex_value-d in
-    let a = digits_fit _ _ c.loop-at.invariant.2 (below t at c.if-n-eq4.false) in
+    let a = digits_fit _ _ c.loop-at.invariant.2 (below t at c.if-full.false) in
     let b = is_digit t at c.if-d-eq16.false in
     let e = valued t at in
     omega arith
@@ -99,7 +99,7 @@ group-overflow_add-v t c =
 pub group-loop-at-preserved : goal.group-loop-at-preserved
 group-loop-at-preserved t c =
     let at = (goal.at.group-loop-at-preserved t c).After-hex_value-d in
-    let few = below t at c.if-n-eq4.false in
+    let few = below t at c.if-full.false in
     let digit = is_digit t at c.if-d-eq16.false in
     let value = valued t at in (
       omega arith,
