@@ -2,7 +2,7 @@
 use Rattle.std.specs.Prelude.{◌≡◌, true, List, [], ◌↔◌, ℕ, eqb, length}
 use Rattle.std.proofs.Common.{ap, eqb-true, eq-eqb}
 use Rattle.tlv.specs.Tlv.{WellFormed}
-use Rattle.tlv.specs.Region.{no_bytes}
+use Rattle.tlv.proofs.RegionLeaf.{no_bytes}
 use Rattle.tlv.specs.Test.{well_formed}
 use Rattle.tlv.proofs.Test.{well_formed_tested}
 use Rattle.record.specs.declared.Kind.{Kind}

@@ -4,7 +4,7 @@ use Rattle.std.proofs.Common.{sym, ap₂, ◌∙◌, inl, inr, arith}
 use Rattle.std.proofs.Math.Path.{ap}
 use Rattle.std.proofs.Math.Option.{some}
 use Rattle.exact.specs.Network.{network}
-use Rattle.tlv.specs.Laws.{area_bytes}
+use Rattle.tlv.proofs.AreaBytes.{area_bytes}
 use Rattle.record.specs.declared.Transport.TheVariants.{Stream, Datagram}
 use Rattle.record.specs.declared.Kind.{Kind}
 use Rattle.record.specs.declared.Kind.TheVariants.{Local, Unspecified, Ip4, Ip6, Unix}

@@ -9,7 +9,7 @@ use Rattle.exact.proofs.Below.{each_below}
 use Rattle.exact.specs.Field.{flat}
 use Rattle.exact.proofs.ParserLemmas.{just}
 use Rattle.tlv.specs.Tlv.{WellFormed}
-use Rattle.tlv.specs.Room.{filled_fillable}
+use Rattle.tlv.proofs.Room.{filled_fillable}
 use Rattle.record.specs.declared.Kind.{Kind}
 use Rattle.record.specs.declared.Kind.TheVariants.{Local, Unspecified, Ip4, Ip6, Unix}
 use Rattle.record.specs.declared.Record.{Record}
@@ -17,7 +17,8 @@ use Rattle.record.specs.Kinds.{family, port_length, block_length}
 use Rattle.record.specs.Records.{record_of, bare, PortFits}
 use Rattle.header.specs.Block.{signature, LOCAL, PROXY, LocalBlock, HasAddresses, port_bytes, Addresses, Block}
 use Rattle.header.specs.Header.{Header}
-use Rattle.fields.specs.Lengths.{fits, either_fits}
+use Rattle.fields.specs.Lengths.{fits}
+use Rattle.fields.proofs.Lengths.{either_fits}
 use Rattle.fields.specs.BlockFields.{blocked, Command, local, proxy, command_of, skipped, port, tlvs, area, addressed, family_rest, command_rest, block}
 use Rattle.fields.specs.BlockMembers.{Addressed, Blocked, Skipped}
 

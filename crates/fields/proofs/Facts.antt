@@ -16,7 +16,7 @@ use Rattle.ip4.proofs.Ip4Laws.{address_length_lem}
 use Rattle.hex_digits.specs.Hex.{hex_of}
 use Rattle.ip6.specs.Bounds.{address_bounds}
 use Rattle.tlv.specs.Tlv.{WellFormed}
-use Rattle.tlv.specs.Room.{filled_fillable}
+use Rattle.tlv.proofs.Room.{filled_fillable}
 use Rattle.record.specs.declared.Transport.TheVariants.{Stream}
 use Rattle.record.specs.declared.Kind.{Kind}
 use Rattle.record.specs.declared.Kind.TheVariants.{Local, Unspecified, Ip4, Ip6}

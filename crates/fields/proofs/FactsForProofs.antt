@@ -17,7 +17,8 @@ use Rattle.exact.specs.Byte.{zeros, found, step_byte}
 use Rattle.exact.specs.Number.{any}
 use Rattle.line_end.specs.Line.{NoEnd}
 use Rattle.line_end.proofs.LongLine.{long_more, long_refused}
-use Rattle.tlv.specs.Room.{Fillable, fill}
+use Rattle.tlv.specs.Room.{Fillable}
+use Rattle.tlv.proofs.Room.{fill}
 use Rattle.record.specs.declared.Kind.{Kind}
 use Rattle.record.specs.declared.Kind.TheVariants.{Local, Unspecified, Ip4, Ip6, Unix}
 use Rattle.record.specs.declared.Record.{Record}

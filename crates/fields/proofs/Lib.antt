@@ -7,3 +7,4 @@ pub mod LineMembers
 pub mod Places
 pub mod ReadsLemmas
 pub mod TableRight
+pub mod Lengths

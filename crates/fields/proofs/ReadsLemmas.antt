@@ -9,7 +9,7 @@ use Rattle.exact.specs.Network.{number_at}
 use Rattle.exact.proofs.Parser.{bytes_back}
 use Rattle.exact.specs.Pick.{pick}
 use Rattle.exact.proofs.Verdicts.{few_count}
-use Rattle.tlv.specs.Region.{no_bytes}
+use Rattle.tlv.proofs.RegionLeaf.{no_bytes}
 use Rattle.record.specs.declared.Record.{Record}
 use Rattle.header.specs.Block.{signature, LOCAL, Block}
 use Rattle.header.specs.Header.{Header, Whole}

@@ -10,7 +10,7 @@ use Rattle.exact.proofs.ParserLemmas.{just}
 use Rattle.exact.specs.Byte.{one_byte, count}
 use Rattle.exact.specs.Number.{any}
 use Rattle.exact.proofs.NumberLemmas.{number16}
-use Rattle.tlv.specs.Region.{region}
+use Rattle.tlv.proofs.RegionLeaf.{region}
 use Rattle.record.specs.declared.Kind.{Kind}
 use Rattle.record.specs.declared.Kind.TheVariants.{Local, Unspecified, Ip4, Ip6, Unix}
 use Rattle.record.specs.declared.Record.{Record}

@@ -9,7 +9,7 @@ use Rattle.exact.specs.Parser.{Starts, ◌then◌, recast}
 use Rattle.exact.proofs.ParserLemmas.{just, either}
 use Rattle.exact.proofs.Parser.{starts_seq}
 use Rattle.exact.proofs.LiteralLaws.{starts_text}
-use Rattle.ip4.specs.Ip4Leaf.{ip4}
+use Rattle.ip4.proofs.Ip4Parser.{ip4}
 use Rattle.ip6.specs.Parser.{ip6}
 use Rattle.ip6.proofs.Parser.{space_ends}
 use Rattle.header.specs.Line.{Ip6Address, group_bytes}

@@ -1,7 +1,7 @@
 -- The length of a block: which are allowed, and how few bytes they ask. The fields behind a length ask as many bytes as it says, so the smallest that is
 -- allowed asks the fewest.
 use Rattle.std.specs.Prelude.{◌≡◌, refl, Bool, true, false, ◌⊎◌, ℕ, ◌+◌, ◌≤◌, ◌<◌, eqb, leb}
-use Rattle.std.proofs.Common.{inl, inr, ⊎_elim, arith, eqb-true, eq-eqb, ne_eqb, leb-true, le-leb}
+use Rattle.std.proofs.Common.{inl, inr, arith, eqb-true, eq-eqb, leb-true, le-leb}
 use Rattle.std.proofs.lemmas.Bool.{eqb-false}
 use Rattle.exact.specs.Network.{number}
 use Rattle.exact.proofs.NumberLemmas.{number16}
@@ -44,12 +44,6 @@ fits_either a n = by (eqb n a) refl
     by : (b : Bool) → eqb n a ≡ b → pick b true (leb (a + 3) n) ≡ true → (n ≡ a) ⊎ (a + 3 ≤ n)
     by true e f = inl (eqb-true n a e)
     by false e f = inr (leb-true (a + 3) n f)
-
-pub either_fits : (a n : ℕ) → (n ≡ a) ⊎ (a + 3 ≤ n) → fits a n ≡ true
-either_fits a n (inl e) = simp (eq-eqb n a e)
-either_fits a n (inr h) =
-    let other : n ≡ a → ⊥ = omega arith in
-    simp (ne_eqb n a other, le-leb (a + 3) n h)
 
 -- of any rule "L must be A, or at least m"
 least_by : (a m n : ℕ) → a ≤ m → pick (eqb n a) true (leb m n) ≡ true → a ≤ n

@@ -9,8 +9,8 @@ use Rattle.exact.proofs.ParserLemmas.{just, either}
 use Rattle.exact.proofs.Parser.{starts_seq}
 use Rattle.exact.specs.LiteralLaws.{text}
 use Rattle.exact.proofs.LiteralLaws.{starts_text}
-use Rattle.decimal.specs.DecimalLeaf.{decimal}
-use Rattle.line_end.specs.LineLeaf.{line_end}
+use Rattle.decimal.proofs.DecimalParser.{decimal}
+use Rattle.line_end.proofs.LineParser.{line_end}
 use Rattle.record.specs.declared.Transport.TheVariants.{Stream}
 use Rattle.record.specs.declared.Kind.{Kind}
 use Rattle.record.specs.declared.Kind.TheVariants.{Unspecified, Ip4, Ip6}

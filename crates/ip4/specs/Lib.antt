@@ -1,4 +1,3 @@
 pub mod Ip4
 pub mod Octets
 pub mod Ip4Verdict
-pub mod Ip4Leaf

@@ -1,2 +1,3 @@
 pub mod LineLeaf
 pub mod LongLine
+pub mod LineParser

@@ -6,3 +6,7 @@ pub mod RegionLemmas
 pub mod Rules
 pub mod Test
 pub mod Whole
+pub mod AreaBytes
+pub mod RegionLeaf
+pub mod Room
+pub mod FillRules

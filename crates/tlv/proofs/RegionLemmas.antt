@@ -4,7 +4,8 @@ use Rattle.exact.specs.Field.{flat, Exact}
 use Rattle.exact.specs.Machine.{leaf}
 use Rattle.tlv.specs.Room.{Fillable}
 use Rattle.tlv.specs.RegionVerdict.{judge}
-use Rattle.tlv.specs.Region.{Region, no_bytes, region_exact, some_bytes}
+use Rattle.tlv.specs.Region.{Region}
+use Rattle.tlv.proofs.RegionLeaf.{no_bytes, region_exact, some_bytes}
 
 -- ── the parser ──
 pub judge_exact : (k m n : ℕ) → Fillable n → (s : List ℕ) → Exact (leaf k (Region n)) (flat m) (judge k m n s) s

@@ -1,8 +1,8 @@
 -- Lemmas on what specs/Rules.antt defines.
 use Rattle.std.specs.Prelude.{[], ◌∷◌, ◌↔◌, ℕ, ◌+◌, ◌*◌, ◌≤◌, ◌<◌}
 use Rattle.tlv.specs.Tlv.{Completes}
-use Rattle.tlv.specs.Room.{high_byte_lem, some_low}
-use Rattle.tlv.specs.Rules.{low_rule}
+use Rattle.tlv.proofs.Room.{high_byte_lem, some_low}
+use Rattle.tlv.proofs.FillRules.{low_rule}
 
 -- "its high length byte h is dead exactly if 256 × h exceeds R"
 pub high_rule : (t h room : ℕ) → t < 256 → h < 256 → Completes (3 + room) (t ∷ h ∷ []) ↔ (256 * h ≤ room)

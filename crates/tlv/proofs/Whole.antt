@@ -7,9 +7,10 @@ use Rattle.exact.specs.Field.{flat, Exact}
 use Rattle.exact.specs.Machine.{leaf, Move, moved, run}
 use Rattle.exact.specs.Pick.{pick_by}
 use Rattle.tlv.specs.Tlv.{WellFormed}
-use Rattle.tlv.specs.Room.{filled_fillable}
+use Rattle.tlv.proofs.Room.{filled_fillable}
 use Rattle.tlv.specs.RegionVerdict.{Due, type_byte, step, least_region, judge}
-use Rattle.tlv.specs.Region.{no_bytes, Region}
+use Rattle.tlv.proofs.RegionLeaf.{no_bytes}
+use Rattle.tlv.specs.Region.{Region}
 use Rattle.tlv.proofs.RegionLemmas.{judge_exact}
 use Rattle.tlv.specs.Whole.{Accepted}
 

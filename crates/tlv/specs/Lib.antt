@@ -2,7 +2,6 @@ pub mod Tlv
 pub mod Laws
 pub mod Listed
 pub mod Room
-pub mod Rules
 pub mod RegionVerdict
 pub mod Region
 pub mod Whole

@@ -24,7 +24,8 @@ pub fn count_of(area: &[u8], wanted: u8) -> Count
         let mut count: usize = 0;
         while at < area.len() {
             let size = number(area[at + 1], area[at + 2]) as usize;
-            if area[at] == wanted {
+            let counts = area[at] == wanted;
+            if counts {
                 count = count + 1;
             }
             at = at + 3 + size;

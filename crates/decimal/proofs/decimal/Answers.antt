@@ -6,7 +6,7 @@ use Rattle.exact.specs.Machine.{Move, run, go, done, dead, from}
 use Rattle.exact.proofs.Theorem.{leaf_claims}
 use Rattle.decimal.specs.Decimal.{Digit, Decimal}
 use Rattle.decimal.specs.DecimalVerdict.{At, decimal_verdict, step_decimal, least_decimal, start, behind}
-use Rattle.decimal.specs.DecimalLeaf.{decimal}
+use Rattle.decimal.proofs.DecimalParser.{decimal}
 use Rattle.decimal.proofs.Steps.{behind_end, behind_zero, behind-digit}
 use Rattle.decimal.specs.declared.Grown.{Grown}
 use Rattle.decimal.specs.declared.Grown.TheVariants.{Number, Dead}

@@ -16,7 +16,7 @@ use Rattle.exact.proofs.Verdicts.{few_count}
 use Rattle.decimal.specs.DecimalVerdict.{decimal_verdict}
 use Rattle.decimal.proofs.DecimalLeaf.{decimal_within, decimal_few}
 use Rattle.ip4.specs.Ip4Verdict.{end_of, ip4_verdict}
-use Rattle.ip4.specs.Ip4Leaf.{ip4}
+use Rattle.ip4.proofs.Ip4Parser.{ip4}
 use Rattle.ip4.proofs.Turn.{octets_start, octets_end, octet_more, octet_refused, octet_accepted}
 use Rattle.ip4.proofs.ip4.Goals.{After-decimal, At-loop-i, In-Accepted, Start, else-i-lt3, then-i-lt3}
 use Rattle.ip4.proofs.ip4.Goals as goal

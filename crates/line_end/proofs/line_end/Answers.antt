@@ -7,7 +7,7 @@ use Rattle.exact.specs.Machine.{from}
 use Rattle.exact.specs.Pick.{pick}
 use Rattle.line_end.specs.Line.{FirstEnd}
 use Rattle.line_end.specs.LineVerdict.{line, least, pass, step_line, least_line, line_verdict}
-use Rattle.line_end.specs.LineLeaf.{line_end}
+use Rattle.line_end.proofs.LineParser.{line_end}
 use Rattle.line_end.proofs.LineLeaf.{lf_ends, passes_by, pass-go, pass-dead}
 use Rattle.line_end.proofs.line_end.Goals.{At-loop-i, Joined-c-eq13, Start, else-c-eq13, else-cr-2, then-c-eq13, then-cr-2+else-c-eq10}
 use Rattle.line_end.proofs.line_end.Goals as goal

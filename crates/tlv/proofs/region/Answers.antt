@@ -4,11 +4,11 @@ use Rattle.exact.specs.Valueless.{Valueless}
 use Rattle.exact.proofs.Theorem.{leaf_claims}
 use Rattle.exact.specs.Network.{number}
 use Rattle.tlv.specs.Tlv.{Filled}
-use Rattle.tlv.specs.Laws.{area_bytes}
-use Rattle.tlv.specs.Room.{good_leaves}
+use Rattle.tlv.proofs.AreaBytes.{area_bytes}
+use Rattle.tlv.proofs.Room.{good_leaves}
 use Rattle.tlv.specs.RegionVerdict.{judge, good}
 use Rattle.tlv.proofs.RegionLemmas.{judge_exact}
-use Rattle.tlv.specs.Region.{good-true}
+use Rattle.tlv.proofs.RegionLeaf.{good-true}
 use Rattle.tlv.proofs.Turn.{onward, onward_start, onward_done, onward-more, type_dead, high_more, high_dead, low_more, low_dead, low_go}
 use Rattle.tlv.proofs.region.Goals.{After-is_good, At-loop-i}
 use Rattle.tlv.proofs.region.Goals as goal

@@ -8,7 +8,7 @@ use Rattle.tlv.proofs.Heads.{size_bytes, size_room, head_type, head_size, head_r
 use Rattle.tlv_count.specs.Count.{count_of, counted, Counts}
 use Rattle.tlv_count.specs.declared.Count.TheVariants.{Tlvs, IllFormed}
 use Rattle.tlv_count.proofs.count_of.Invariants.{Left}
-use Rattle.tlv_count.proofs.count_of.Goals.{After-number-size, At-loop-at, else-area-at, then-area-at}
+use Rattle.tlv_count.proofs.count_of.Goals.{After-number-size, At-loop-at, else-counts, then-counts}
 use Rattle.tlv_count.proofs.count_of.Goals as goal
 
 module _ (s : List ℕ) (wanted : ℕ) where
@@ -98,9 +98,9 @@ pub loop-at-preserved : goal.loop-at-preserved
 loop-at-preserved c =
     let n = (goal.at.loop-at-preserved c).After-number-size in
     let l = head n in
-    next (area l) (wanted l) (place l) l.loop-at.count l.loop-at.invariant n.number-size.result c.if-area-at.count (omega arith) (size_is n)
-    (elim c.if-area-at.branch [ then-area-at w ↦ rw (eq-eqb (get_or (area l) (place l) 0) (wanted l) w.if-area-at.true) (omega arith) | else-area-at w ↦ rw (ne_eqb (get_or (area l) (place l) 0) (wanted l) w.if-area-at.false) (omega arith) ])
-    (elim c.if-area-at.branch [ then-area-at w ↦ omega arith | else-area-at w ↦ omega arith ])
+    next (area l) (wanted l) (place l) l.loop-at.count l.loop-at.invariant n.number-size.result c.if-counts.count (omega arith) (size_is n)
+    (elim c.if-counts.branch [ then-counts w ↦ rw (eq-eqb (get_or (area l) (place l) 0) (wanted l) w.if-counts.true) (omega arith) | else-counts w ↦ rw (ne_eqb (get_or (area l) (place l) 0) (wanted l) w.if-counts.false) (omega arith) ])
+    (elim c.if-counts.branch [ then-counts w ↦ omega arith | else-counts w ↦ omega arith ])
 
 pub returns-after-loop-at : goal.returns-after-loop-at
 returns-after-loop-at c = let l = (goal.at.returns-after-loop-at c).At-loop-at in finished (area l) (wanted l) (place l) l.loop-at.count l.loop-at.invariant (omega arith)

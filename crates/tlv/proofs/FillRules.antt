@@ -2,7 +2,7 @@
 use Rattle.std.specs.Prelude.{◌≡◌, [], ◌∷◌, ◌⊎◌, ◌↔◌, ℕ, ◌+◌, ◌-◌, ◌≤◌, ◌<◌}
 use Rattle.exact.specs.Network.{number}
 use Rattle.tlv.specs.Tlv.{Completes}
-use Rattle.tlv.specs.Room.{fill, filled_fillable, behind_fill, behind_fillable, head_open, head_shut, good_leaves, leaves_good}
+use Rattle.tlv.proofs.Room.{fill, filled_fillable, behind_fill, behind_fillable, head_open, head_shut, good_leaves, leaves_good}
 
 -- "L must be A, or at least A + 3": what TLVs can fill is nothing, or at least three bytes
 pub fill_rule : (n : ℕ) → Completes n [] ↔ ((n ≡ 0) ⊎ (3 ≤ n))

@@ -1,4 +1,4 @@
--- For proofs. The leaf of IPv4 text that a byte ends: four decimals, one behind the other.
+-- The leaf of IPv4 text that a byte ends: four decimals, one behind the other.
 use Rattle.std.specs.Prelude.{◌≡◌, refl, List, [], ◌∷◌, ◌++◌, ℕ, zero, suc, ◌+◌, ◌*◌, ◌<◌, eqb}
 use Rattle.std.proofs.Common.{subst, append_assoc, append-nil, ⊎_elim, arith}
 use Rattle.exact.specs.Field.{Exact, Least, flat}
@@ -9,7 +9,7 @@ use Rattle.exact.proofs.ParserLemmas.{just}
 use Rattle.exact.specs.Ended.{Ended}
 use Rattle.decimal.specs.Decimal.{Digit}
 use Rattle.ip4.specs.Ip4.{Address}
-use Rattle.decimal.specs.DecimalLeaf.{decimal}
+use Rattle.decimal.proofs.DecimalParser.{decimal}
 use Rattle.ip4.specs.Ip4Verdict.{end_of, ip4_verdict}
 
 module _ (k m end : ℕ) (apart : Digit end → ⊥) (small : end < 256) where
