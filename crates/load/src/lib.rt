@@ -4,23 +4,16 @@
 ghost use Rattle.std.specs.Prelude.{◌≡◌, ◌≤◌, length};
 ghost use Rattle.kind_code.specs.States.{told_state};
 ghost use Rattle.stored_form.specs.Heads.{head_length, state_in};
-ghost use Rattle.stored_form.specs.Loading.{flaw_number, told_loaded, loaded_record, no_record, has_mark, has_version, load_block, load_answer};
+ghost use Rattle.record.specs.Records.{bare};
+ghost use Rattle.record.specs.declared.Kind.TheVariants.{Unspecified};
+ghost use Rattle.stored_form.specs.Loading.{told_outcome, told_loaded, loaded_record, has_mark, has_version, load_block, load_answer};
 ghost use Rattle.stored_form.specs.Meaning.{LoadMeans};
 
 use address_block::addresses_of;
 use clean::clean_state;
 use kind_code::{State, kind_of, state_of};
-use record::{Checksum, Family, Kind, blank, block_length, with_checksum};
+use record::{Checksum, Family, Kind, Record, blank, block_length, with_checksum};
 use stored_form::{Flaw, Loaded, Outcome, StoredVersion, head_length, version_byte};
-
-fn refused(flaw: Flaw) -> Loaded
-    ensures { (told_loaded result ≡ no_record (flaw_number flaw)) × (result.«record» ≡ loaded_record (no_record (flaw_number flaw))) }
-{
-    Loaded {
-        outcome: Outcome::Refused(flaw),
-        record: blank(Kind::Unspecified),
-    }
-}
 
 fn has_mark(s: &[u8]) -> bool
     requires { 6 ≤ length s.now }
@@ -55,20 +48,56 @@ fn state_in(s: &[u8], version: StoredVersion) -> State
     }
 }
 
-// The record of this kind and state, where the address block is whole.
-fn load_block(s: &[u8], version: StoredVersion, kind: Kind, checksum: Checksum) -> Loaded
-    requires { head_length version ≤ length s.now }
-    ensures { (told_loaded result ≡ load_block version kind checksum s.now)
-        × (result.«record» ≡ loaded_record (load_block version kind checksum s.now)) }
+// Puts the record of this kind and state, where the address block is whole; else the record stays as it was lent, unspecified.
+fn load_block(
+    s: &[u8],
+    version: StoredVersion,
+    kind: Kind,
+    checksum: Checksum,
+    into: &mut Record,
+) -> Outcome
+    requires long { head_length version ≤ length s.now }
+    requires unspecified { into.old ≡ bare Unspecified }
+    ensures answer { told_outcome result into.new ≡ load_block version kind checksum s.now }
+    ensures put { into.new ≡ loaded_record (load_block version kind checksum s.now) }
 {
     let n = head_length(version);
     if s.len() == n + block_length(kind) {
-        Loaded {
-            outcome: Outcome::Accepted,
-            record: with_checksum(addresses_of(kind, &s[n..]), checksum),
-        }
+        *into = with_checksum(addresses_of(kind, &s[n..]), checksum);
+        Outcome::Accepted
     } else {
-        refused(Flaw::Length)
+        Outcome::Refused(Flaw::Length)
+    }
+}
+
+// Puts the record that the bytes are the stored form of; else it stays as it was lent, unspecified. A record that came back by value from here and from
+// `load_block` would be copied, and take stack, at each.
+fn load_into(s: &[u8], version: StoredVersion, into: &mut Record) -> Outcome
+    requires { into.old ≡ bare Unspecified }
+    ensures answer { told_outcome result into.new ≡ load_answer version s.now }
+    ensures put { into.new ≡ loaded_record (load_answer version s.now) }
+{
+    if s.len() < head_length(version) {
+        return Outcome::Refused(Flaw::Length);
+    }
+    if !has_mark(s) {
+        return Outcome::Refused(Flaw::Mark);
+    }
+    if !has_version(s, version) {
+        return Outcome::Refused(Flaw::Version);
+    }
+    match kind_of(s[5]) {
+        Family::Unknown => Outcome::Refused(Flaw::Code),
+        Family::Known(kind) => match state_in(s, version) {
+            State::Unknown => Outcome::Refused(Flaw::State),
+            State::Known(checksum) => {
+                if clean_state(kind, checksum) {
+                    load_block(s, version, kind, checksum, into)
+                } else {
+                    Outcome::Refused(Flaw::State)
+                }
+            }
+        },
     }
 }
 
@@ -78,26 +107,7 @@ pub fn load(s: &[u8], version: StoredVersion) -> Loaded
         × (result.«record» ≡ loaded_record (load_answer version s.now))
         × LoadMeans version s.now (told_loaded result) }
 {
-    if s.len() < head_length(version) {
-        return refused(Flaw::Length);
-    }
-    if !has_mark(s) {
-        return refused(Flaw::Mark);
-    }
-    if !has_version(s, version) {
-        return refused(Flaw::Version);
-    }
-    match kind_of(s[5]) {
-        Family::Unknown => refused(Flaw::Code),
-        Family::Known(kind) => match state_in(s, version) {
-            State::Unknown => refused(Flaw::State),
-            State::Known(checksum) => {
-                if clean_state(kind, checksum) {
-                    load_block(s, version, kind, checksum)
-                } else {
-                    refused(Flaw::State)
-                }
-            }
-        },
-    }
+    let mut record = blank(Kind::Unspecified);
+    let outcome = load_into(s, version, &mut record);
+    Loaded { outcome, record }
 }

@@ -30,7 +30,8 @@ fn is_known(row: &[u8], rows: &[u8]) -> bool
     false
 }
 
-// Whether the table is good.
+// Whether the table is good. Not inlined: a caller that reads a header next would keep the room that this takes on its stack.
+#[inline(never)]
 pub fn is_good_table(table: &[u8]) -> bool
     ensures { result ≡ good_table table.now }
 {

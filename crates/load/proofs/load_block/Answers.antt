@@ -1,5 +1,5 @@
 -- The address block is what stands behind the head, where the length is that of the kind.
-use Rattle.std.proofs.Common.{ℕ, ◌≡◌, sym, ap, ◌∙◌, List, arith, drop}
+use Rattle.std.proofs.Common.{ℕ, sym, ap, ◌∙◌, List, arith, drop}
 use Rattle.exact.proofs.Parser.{tail_all}
 use Rattle.record.specs.declared.Kind.{Kind}
 use Rattle.record.specs.declared.Checksum.{Checksum}
@@ -7,10 +7,8 @@ use Rattle.record.specs.Records.{with_checksum}
 use Rattle.address_block.specs.AddressBlock.{block_record}
 use Rattle.address_block.proofs.AddressBlockLaws.{address_fits, port_fits}
 use Rattle.stored_form.specs.declared.StoredVersion.{StoredVersion}
-use Rattle.stored_form.specs.declared.Loaded.{Loaded}
-use Rattle.stored_form.specs.declared.Outcome.TheVariants.{Accepted}
 use Rattle.stored_form.proofs.HeadLaws.{seven_at_most}
-use Rattle.stored_form.specs.Loading.{LoadAnswer, loads, told_loaded, loaded_record, load_block}
+use Rattle.stored_form.specs.Loading.{loads, loaded_record}
 use Rattle.stored_form.proofs.LoadLaws.{block_length_lem, block_whole}
 use Rattle.load.proofs.load_block.Goals.{After-addresses_of, After-block_length, Start, Then-s-n}
 use Rattle.load.proofs.load_block.Goals as goal
@@ -30,10 +28,6 @@ module _ (c : After-block_length) where
 
   abbrev checksum : Checksum
   checksum = start.args.checksum
-
-  promise : (x : Loaded) {a : LoadAnswer} → load_block version kind checksum bytes ≡ a → (told_loaded x ≡ a) × (x.«record» ≡ loaded_record a)
-      → (told_loaded x ≡ load_block version kind checksum bytes) × (x.«record» ≡ loaded_record (load_block version kind checksum bytes))
-  promise x e given = (given.0 ∙ sym e, given.1 ∙ ap loaded_record (sym e))
 
 pub overflow_add-n : goal.overflow_add-n
 overflow_add-n c =
@@ -57,8 +51,8 @@ returns-then-s-n c =
     (found.addresses_of.ensures
     ∙ ap (block_record (kind d)) (tail_all d.head_length-n.result (bytes d) ∙ ap (λ (m : ℕ). drop m (bytes d)) h))
     in
-    promise d (record { outcome = Accepted; «record» = c.with_checksum.result }) (block_whole (version d) (kind d) (checksum d) (bytes d) (omega arith))
-    (ap loads made, made)
+    let whole = block_whole (version d) (kind d) (checksum d) (bytes d) (omega arith) in
+    record { answer = ap loads made ∙ sym whole; put = made ∙ ap loaded_record (sym whole) }
 
 pub returns-else-s-n : goal.returns-else-s-n
 returns-else-s-n c =
@@ -66,4 +60,5 @@ returns-else-s-n c =
     let h = d.head_length-n.ensures in
     let n = d.block_length.ensures in
     let other = c.if-s-n.false in
-    promise d c.refused.result (block_length_lem (version d) (kind d) (checksum d) (bytes d) (λ same. other (omega arith))) c.refused.ensures
+    let short = block_length_lem (version d) (kind d) (checksum d) (bytes d) (λ same. other (omega arith)) in
+    record { answer = sym short; put = c.requires.unspecified ∙ ap loaded_record (sym short) }

@@ -1,0 +1,162 @@
+-- `load` answers by its tests in the order of `load_answer`; the bytes lent are numbers below 256, so that what it answers means what it should.
+use Rattle.std.proofs.Common.{ℕ, ◌≤◌, ◌≡◌, sym, ap, ◌∙◌, Bool, true, false, List, arith, length, get_or}
+use Rattle.exact.specs.Pick.{pick}
+use Rattle.record.specs.declared.Kind.{Kind}
+use Rattle.record.specs.declared.Checksum.{Checksum}
+use Rattle.record.specs.declared.Family.{Family}
+use Rattle.record.specs.KnownFamily.{told_family}
+use Rattle.kind_code.specs.declared.State.{State}
+use Rattle.kind_code.specs.Codes.{kind_of}
+use Rattle.kind_code.specs.States.{told_state}
+use Rattle.stored_form.specs.declared.StoredVersion.{StoredVersion}
+use Rattle.stored_form.specs.Heads.{head_length, state_in}
+use Rattle.stored_form.proofs.HeadLaws.{six_at_least}
+use Rattle.stored_form.specs.Loading.{no_record, loaded_record, has_mark, has_version, load_block, load_answer}
+use Rattle.stored_form.proofs.LoadLaws.{answer_short, answer_mark, answer_version, answer_code, answer_no_state, answer_state}
+use Rattle.load.proofs.load_into.Goals.{After-clean_state, After-has_mark, After-has_version, After-head_length, After-kind_of, After-state_in, Else-s-head_length, In-Known, In-Known-state_in}
+use Rattle.load.proofs.load_into.Goals as goal
+
+module _ (c : After-head_length) where
+  abbrev bytes : List ℕ
+  bytes = c.args.s.now
+
+  abbrev version : StoredVersion
+  version = c.args.version
+
+  -- a refusal leaves the record that was lent
+  refused : {k : ℕ} → load_answer version bytes ≡ no_record k → (no_record k ≡ load_answer version bytes) × (c.args.into.now ≡ loaded_record (load_answer version bytes))
+  refused e = (sym e, c.requires ∙ ap loaded_record (sym e))
+
+pub returns-then-s-head_length : goal.returns-then-s-head_length
+returns-then-s-head_length c =
+    let d = (goal.at.returns-then-s-head_length c).After-head_length in
+    let h = d.head_length.ensures in
+    let short = c.if-s-head_length.true in
+    let it = refused d (answer_short (version d) (bytes d) (omega arith)) in
+    record { answer = it.0; put = it.1 }
+
+-- behind the test of the length
+module _ (c : Else-s-head_length) where
+  long : head_length (version (goal.at.Else-s-head_length c).After-head_length) ≤ length (bytes (goal.at.Else-s-head_length c).After-head_length)
+  long = let h = c.head_length.ensures in let l = c.if-s-head_length.false in omega arith
+
+  six : 6 ≤ length (bytes (goal.at.Else-s-head_length c).After-head_length)
+  six = let s = six_at_least (version (goal.at.Else-s-head_length c).After-head_length) in let l = long in omega arith
+
+pub has_mark-requires : goal.has_mark-requires
+has_mark-requires c = six c
+
+pub returns-then-not-has_mark : goal.returns-then-not-has_mark
+returns-then-not-has_mark c =
+    let marked = (goal.at.returns-then-not-has_mark c).After-has_mark in
+    let d = (goal.at.After-has_mark marked).After-head_length in
+    let it = refused d (answer_mark (version d) (bytes d) (long (goal.at.After-has_mark marked).Else-s-head_length) (sym marked.has_mark.ensures ∙ c.if-not-has_mark.true)) in
+    record { answer = it.0; put = it.1 }
+
+pub has_version-requires : goal.has_version-requires
+has_version-requires c = six (goal.at.has_version-requires c).Else-s-head_length
+
+-- behind the test of the mark
+module _ (c : After-has_version) where
+  abbrev lengthy : Else-s-head_length
+  lengthy = (goal.at.After-has_version c).Else-s-head_length
+
+  abbrev first : After-head_length
+  first = (goal.at.Else-s-head_length lengthy).After-head_length
+
+  marked : has_mark (bytes first) ≡ true
+  marked = sym c.has_mark.ensures ∙ c.if-not-has_mark.false
+
+pub returns-then-not-has_version : goal.returns-then-not-has_version
+returns-then-not-has_version c =
+    let d = (goal.at.returns-then-not-has_version c).After-has_version in
+    let it = refused (first d) (answer_version (version (first d)) (bytes (first d)) (long (lengthy d)) (marked d) (sym d.has_version.ensures ∙ c.if-not-has_version.true)) in
+    record { answer = it.0; put = it.1 }
+
+pub bounds-s-5 : goal.bounds-s-5
+bounds-s-5 c = let s = six (lengthy (goal.at.bounds-s-5 c).After-has_version) in omega arith
+
+-- behind the test of the version
+module _ (c : After-kind_of) where
+  abbrev tested : After-has_version
+  tested = (goal.at.After-kind_of c).After-has_version
+
+  versioned : has_version (version (first tested)) (bytes (first tested)) ≡ true
+  versioned = sym tested.has_version.ensures ∙ c.if-not-has_version.false
+
+  found : (x : Family) → c.kind_of.result ≡ x → kind_of (get_or (bytes (first tested)) 5 0) ≡ told_family x
+  found x e = sym c.kind_of.ensures ∙ ap told_family e
+
+pub returns-in-Unknown : goal.returns-in-Unknown
+returns-in-Unknown c =
+    let d = (goal.at.returns-in-Unknown c).After-kind_of in
+    let e = tested d in
+    let it = refused (first e) (answer_code (version (first e)) (bytes (first e)) (long (lengthy e)) (marked e) (versioned d) (found d _ c.in-Unknown.is)) in
+    record { answer = it.0; put = it.1 }
+
+pub state_in-requires : goal.state_in-requires
+state_in-requires c = long (lengthy (tested (goal.at.state_in-requires c).After-kind_of))
+
+-- behind the kind code
+module _ (c : After-state_in) where
+  abbrev named : In-Known
+  named = (goal.at.After-state_in c).In-Known
+
+  abbrev coded : After-kind_of
+  coded = (goal.at.In-Known named).After-kind_of
+
+  abbrev at_first : After-head_length
+  at_first = first (tested coded)
+
+  abbrev kind : Kind
+  kind = named.in-Known.kind
+
+  said : (x : State) → c.state_in.result ≡ x → state_in (version at_first) (bytes at_first) ≡ told_state x
+  said x e = sym c.state_in.ensures ∙ ap told_state e
+
+pub returns-in-Unknown-state_in : goal.returns-in-Unknown-state_in
+returns-in-Unknown-state_in c =
+    let s = (goal.at.returns-in-Unknown-state_in c).After-state_in in
+    let d = coded s in
+    let e = tested d in
+    let it = refused (first e) (answer_no_state (version (first e)) (bytes (first e)) (long (lengthy e)) (marked e) (versioned d) (kind s) (found d _ (named s).in-Known.is)
+    (said s _ c.in-Unknown-state_in.is)) in
+    record { answer = it.0; put = it.1 }
+
+pub load_block-requires : goal.load_block-requires
+load_block-requires c =
+    record { long = long (lengthy (tested (coded (goal.at.load_block-requires c).After-state_in))); unspecified = c.requires }
+
+-- behind the state
+module _ (c : After-clean_state) where
+  abbrev stated : In-Known-state_in
+  stated = (goal.at.After-clean_state c).In-Known-state_in
+
+  abbrev before-state : After-state_in
+  before-state = (goal.at.In-Known-state_in stated).After-state_in
+
+  abbrev at-start : After-head_length
+  at-start = at_first before-state
+
+  abbrev checksum : Checksum
+  checksum = stated.in-Known-state_in.checksum
+
+  by_state : (b : Bool) → c.clean_state.result ≡ b
+      → load_answer (version at-start) (bytes at-start) ≡ pick b (load_block (version at-start) (kind before-state) checksum (bytes at-start)) (no_record 24)
+  by_state b e =
+      let d = coded before-state in
+      let t = tested d in
+      answer_state (version at-start) (bytes at-start) (long (lengthy t)) (marked t) (versioned d) (kind before-state)
+      (found d _ (named before-state).in-Known.is) checksum (said before-state _ stated.in-Known-state_in.is) b (sym c.clean_state.ensures ∙ e)
+
+pub returns-then-clean_state : goal.returns-then-clean_state
+returns-then-clean_state c =
+    let d = (goal.at.returns-then-clean_state c).After-clean_state in
+    let e = by_state d true c.if-clean_state.true in
+    record { answer = c.load_block.ensures.answer ∙ sym e; put = c.load_block.ensures.put ∙ ap loaded_record (sym e) }
+
+pub returns-else-clean_state : goal.returns-else-clean_state
+returns-else-clean_state c =
+    let d = (goal.at.returns-else-clean_state c).After-clean_state in
+    let it = refused (at-start d) (by_state d false c.if-clean_state.false) in
+    record { answer = it.0; put = it.1 }
