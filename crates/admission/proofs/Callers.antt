@@ -11,7 +11,7 @@ use Rattle.tlv.specs.Listed.{tlvs_of}
 use Rattle.tlv.proofs.Listed.{tlvs_of_lem}
 use Rattle.header.specs.Header.{Header}
 use Rattle.header.specs.Demand.{Judges}
-use Rattle.fields.specs.Exactness.{verdict}
+use Rattle.fields.proofs.HeaderVerdict.{verdict}
 use Rattle.fields.proofs.Exactness.{judges, judges_within}
 use Rattle.fields.proofs.Facts.{area_last}
 use Rattle.prefix_table.specs.Table.{rows_of}

@@ -7,7 +7,7 @@ use Rattle.exact.specs.Claim as Claim
 use Rattle.exact.specs.Pick.{pick, pick_by, never}
 use Rattle.header.specs.Header.{Header}
 use Rattle.header.specs.Demand.{Judges}
-use Rattle.fields.specs.Exactness.{verdict}
+use Rattle.fields.proofs.HeaderVerdict.{verdict}
 use Rattle.fields.proofs.Exactness.{judges, judges_only, judges_stays}
 use Rattle.prefix.specs.Prefix.{Prefix}
 use Rattle.prefix_table.specs.Table.{rows_of, GoodRows, Good}

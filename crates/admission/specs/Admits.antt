@@ -5,7 +5,7 @@ use Rattle.exact.specs.Claim as Claim
 use Rattle.exact.specs.Pick.{pick}
 use Rattle.header.specs.Header.{Header}
 use Rattle.header.specs.Demand.{Judges}
-use Rattle.fields.specs.Exactness.{verdict}
+use Rattle.fields.proofs.HeaderVerdict.{verdict}
 use Rattle.prefix.specs.Prefix.{Prefix}
 use Rattle.prefix_table.specs.Table.{rows_of, Good}
 use Rattle.prefix_table.specs.TableTests.{good_table}

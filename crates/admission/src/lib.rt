@@ -18,7 +18,9 @@ pub fn admit(table: &[u8], bytes: &[u8]) -> Answer
     ensures { (told_answer result ≡ admission table.now bytes.now)
         × Admits table.now bytes.now (told_answer result) }
 {
-    if !is_good_table(table) {
+    let good = is_good_table(table);
+    let bad = !good;
+    if bad {
         return Answer::Denied(Denial::Table);
     }
     let reading = read(bytes);

@@ -16,7 +16,7 @@ use Rattle.record.specs.declared.Kind.{Kind}
 use Rattle.kind_code.specs.States.{state_byte}
 use Rattle.kind_code.proofs.CodeLaws.{code_kind}
 use Rattle.header.specs.Header.{Header, Whole}
-use Rattle.fields.specs.Exactness.{verdict}
+use Rattle.fields.proofs.HeaderVerdict.{verdict}
 use Rattle.fields.proofs.Facts.{record_plain}
 use Rattle.lent.specs.Buffers.{over, told_in}
 use Rattle.lent.proofs.BufferLaws.{roomy, over-over, over_all}

@@ -4,7 +4,8 @@
 
 ghost use Rattle.std.specs.Prelude.{drop};
 ghost use Rattle.exact.specs.Field.{shift};
-ghost use Rattle.fields.specs.BlockFields.{block as block_field, from_command, from_family, command_rest, local as under_local};
+ghost use Rattle.fields.proofs.BlockFields.{block as block_field, from_command, from_family, command_rest};
+ghost use Rattle.fields.specs.BlockFields.{local as under_local};
 ghost use Rattle.answer.specs.Sight.{Sees};
 
 use answer::{Refusal, Seen, more, refused};

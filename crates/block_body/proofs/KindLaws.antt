@@ -9,7 +9,7 @@ use Rattle.record.specs.declared.Kind.TheVariants.{Local, Unspecified, Ip4, Ip6,
 use Rattle.record.specs.Kinds.{block_length}
 use Rattle.record.specs.Records.{bare}
 use Rattle.address_block.specs.AddressBlock.{block_record}
-use Rattle.fields.specs.BlockFields.{skipped, addressed, family_rest}
+use Rattle.fields.proofs.BlockFields.{skipped, addressed, family_rest}
 use Rattle.answer.specs.Answers.{block_area}
 
 -- a kind without an address block

@@ -14,7 +14,8 @@ use Rattle.exact.specs.Network.{number}
 use Rattle.exact.specs.Pick.{pick_by}
 use Rattle.header.specs.Header.{Header}
 use Rattle.fields.specs.LineFields.{Headers}
-use Rattle.fields.specs.Lengths.{lowest, length_field}
+use Rattle.fields.specs.Lengths.{lowest}
+use Rattle.fields.proofs.LengthField.{length_field}
 use Rattle.block_body.specs.Shortest.{shortest}
 use Rattle.block_body.proofs.Takes.{bytes_drop}
 use Rattle.block_body.proofs.Leaves.{number_one}

@@ -10,7 +10,8 @@ use Rattle.exact.specs.Network.{number_at}
 use Rattle.exact.specs.Byte.{count_verdict}
 use Rattle.record.specs.declared.Record.{Record}
 use Rattle.header.specs.Header.{Header}
-use Rattle.fields.specs.BlockFields.{blocked, always, any_length, skipped_bytes, skipped}
+use Rattle.fields.specs.BlockFields.{blocked, always, skipped_bytes}
+use Rattle.fields.proofs.BlockFields.{any_length, skipped}
 use Rattle.block_body.specs.Shortest.{shortest}
 use Rattle.block_body.proofs.Parts.{number_at_lem}
 use Rattle.block_body.proofs.Takes.{next_short, then_at, short_at}

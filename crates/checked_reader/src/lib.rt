@@ -55,7 +55,8 @@ fn check_value(header: &[u8], area: &[u8], start: usize, size: usize) -> Check
     requires { FirstAt header.now area.now start size }
     ensures { told_check result ≡ state_in header.now (tlvs_of area.now) }
 {
-    if size != 4 {
+    let odd = size != 4;
+    if odd {
         return Check::Wrong;
     }
     if !has_none(behind(area, start + size), 0x03) {

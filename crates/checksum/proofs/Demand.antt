@@ -13,7 +13,7 @@ use Rattle.record.specs.declared.Checksum.TheVariants.{Absent, Matched}
 use Rattle.header.specs.Block.{HasAddresses}
 use Rattle.header.specs.Header.{Header, Whole}
 use Rattle.header.specs.Demand.{Judges}
-use Rattle.fields.specs.Exactness.{verdict}
+use Rattle.fields.proofs.HeaderVerdict.{verdict}
 use Rattle.fields.proofs.Exactness.{judges, judges_only, judges_stays}
 use Rattle.fields.proofs.Facts.{area_empty, record_plain}
 use Rattle.checksum.specs.Checksum.{values_of, Right, Wrong, differs, not_four, several}

@@ -10,7 +10,7 @@ use Rattle.tlv.specs.Listed.{tlvs_of}
 use Rattle.record.specs.declared.Checksum.{Checksum}
 use Rattle.record.specs.declared.Checksum.TheVariants.{Absent, Matched}
 use Rattle.header.specs.Header.{Header}
-use Rattle.fields.specs.Exactness.{verdict}
+use Rattle.fields.proofs.HeaderVerdict.{verdict}
 use Rattle.checksum.specs.Checksum.{values_of, checksum_of, Right, Wrong}
 use Rattle.checksum.specs.Checked.{CheckedVerdict, judged, refuses, tlvs_in, in_state}
 

@@ -1,5 +1,5 @@
 // What the bytes so far are, for C callers.
-ghost use Rattle.fields.specs.Exactness.{verdict as verdict_on};
+ghost use Rattle.fields.proofs.HeaderVerdict.{verdict as verdict_on};
 ghost use Rattle.checksum.specs.State.{checked_verdict};
 ghost use Rattle.read_interface.specs.ReadInterface.{spoken, spoken_checked, ReadTold};
 

@@ -55,7 +55,8 @@ pub fn decimal(s: &[u8], bound: u32, end: u8) -> Scan
         if c == end {
             return Scan::Accepted(n, i + 1);
         }
-        if n == 0 {
+        let zero = n == 0;
+        if zero {
             return Scan::Refused(i);
         }
         let Grown::Number(m) = grow(n, c, bound) else {

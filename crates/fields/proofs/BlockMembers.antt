@@ -19,7 +19,8 @@ use Rattle.header.specs.Block.{signature, LOCAL, PROXY, LocalBlock, HasAddresses
 use Rattle.header.specs.Header.{Header}
 use Rattle.fields.specs.Lengths.{fits}
 use Rattle.fields.proofs.Lengths.{either_fits}
-use Rattle.fields.specs.BlockFields.{blocked, Command, local, proxy, command_of, skipped, port, tlvs, area, addressed, family_rest, command_rest, block}
+use Rattle.fields.specs.BlockFields.{blocked, Command, local, proxy, command_of, port, tlvs, area}
+use Rattle.fields.proofs.BlockFields.{skipped, addressed, family_rest, command_rest, block}
 use Rattle.fields.specs.BlockMembers.{Addressed, Blocked, Skipped}
 
 -- ── the members ──

@@ -19,8 +19,10 @@ use Rattle.record.specs.declared.Record.{Record}
 use Rattle.record.specs.Kinds.{family, block_length}
 use Rattle.record.specs.Records.{bare}
 use Rattle.fields.specs.LineFields.{word}
-use Rattle.fields.specs.Lengths.{lowest, length_field, fits, fits_least, lowest-fits}
-use Rattle.fields.specs.BlockFields.{Command, local, proxy, command, command_of, always, any_length, skipped_bytes, fit_skipped, skipped, block_small, block_length_byte, block_length_field, addresses, fit_addresses, addressed, family_field, family_rest, fit_family, any_byte, command_rest, fit_command, from_command, signature_field, block}
+use Rattle.fields.specs.Lengths.{lowest, fits}
+use Rattle.fields.proofs.LengthField.{length_field, fits_least, lowest-fits}
+use Rattle.fields.specs.BlockFields.{Command, local, proxy, command, command_of, always, skipped_bytes, block_small, block_length_byte, addresses, family_field, any_byte, signature_field}
+use Rattle.fields.proofs.BlockFields.{any_length, fit_skipped, skipped, block_length_field, fit_addresses, addressed, family_rest, fit_family, command_rest, fit_command, from_command, block}
 
 -- on fewer than l bytes no count is over the bound
 abbrev Low : {A : Type 0} → ℕ → (List ℕ → Verdict A) → Type 0

@@ -11,10 +11,11 @@ use Rattle.header.specs.Demand.{Judges}
 use Rattle.fields.proofs.LineMembers.{line_same}
 use Rattle.fields.specs.LineMembers.{Lined}
 use Rattle.fields.proofs.BlockMembers.{block_same}
-use Rattle.fields.specs.BlockFields.{block}
+use Rattle.fields.proofs.BlockFields.{block}
 use Rattle.fields.specs.Places.{AddressField}
 use Rattle.fields.proofs.Places.{ip4_clear, ip6_clear, numbered_ended, numbered_line, numbered_block}
-use Rattle.fields.specs.Exactness.{address4, address6, block_starts, header, is_p, line_field, line_starts, verdict}
+use Rattle.fields.specs.Exactness.{address4, address6, is_p, line_field, line_starts}
+use Rattle.fields.proofs.HeaderVerdict.{block_starts, header, verdict}
 
 -- ── the address fields ──
 field4 : AddressField Ip4Address address4

@@ -28,7 +28,7 @@ use Rattle.header.specs.Block.{signature, LOCAL, PROXY, Framed, HasAddresses, Ad
 use Rattle.header.specs.Header.{Header, Whole}
 use Rattle.header.specs.Demand.{Judges}
 use Rattle.fields.proofs.BlockMembers.{addresses_length}
-use Rattle.fields.specs.Exactness.{verdict}
+use Rattle.fields.proofs.HeaderVerdict.{verdict}
 use Rattle.fields.proofs.Exactness.{judges_only, judges_stays}
 use Rattle.fields.proofs.FactsForProofs.{by_verdict, framed_length, block_bounds, header_least, kept, tcp_kept, group_bytes_lem, unknown_verdict, rest_more, rest_refused, place_number_lem, number_seven, number_eight, high_lives, first_thirteen, family-verdict, no_family, local_taken, length_verdict}
 use Rattle.fields.specs.Facts.{highest, highest4, highest6, length_field, local_header, local_zeros, unknown_header, unspecified_header}

@@ -32,8 +32,9 @@ use Rattle.header.specs.Demand.{Judges}
 use Rattle.fields.specs.LineFields.{lined, rest_field}
 use Rattle.fields.proofs.BlockMembers.{addresses_length}
 use Rattle.fields.specs.Lengths.{fits}
-use Rattle.fields.specs.BlockFields.{blocked, skipped, addressed, family_rest, block_small}
-use Rattle.fields.specs.Exactness.{verdict}
+use Rattle.fields.specs.BlockFields.{blocked, block_small}
+use Rattle.fields.proofs.BlockFields.{skipped, addressed, family_rest}
+use Rattle.fields.proofs.HeaderVerdict.{verdict}
 use Rattle.fields.proofs.Exactness.{judges, bytes_enough}
 
 pub by_verdict : (v : Verdict Header) (s : List ℕ) → verdict s ≡ v → Judges v s

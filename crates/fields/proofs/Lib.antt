@@ -8,3 +8,6 @@ pub mod Places
 pub mod ReadsLemmas
 pub mod TableRight
 pub mod Lengths
+pub mod BlockFields
+pub mod HeaderVerdict
+pub mod LengthField

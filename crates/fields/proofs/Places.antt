@@ -29,7 +29,8 @@ use Rattle.header.specs.Line.{Ip6Address}
 use Rattle.header.specs.Block.{signature}
 use Rattle.header.specs.Header.{Header, place_number, parts_ended, tcp_number, unknown_number, block_number}
 use Rattle.fields.specs.LineFields.{lined, AddressParser, words, families, from_rest, proxy_word, unknown_word, tcp_word, family_word, cr_field, space_field, rest_field, lf_field, unknown_end, line_feed, source_port, destination_port, from_destination_port, from_source_port, from_destination, from_source, tcp, short_end, long_end, is_cr, is4, is_u, short_starts, long_starts, unknown, tcp4, tcp6, starts4, starts6, tcps, unknown_starts, tcps_starts, line}
-use Rattle.fields.specs.BlockFields.{Command, local, proxy, command_of, command, always, any_length, skipped_bytes, skipped, port, tlvs, block_length_field, addresses, addressed, family_rest, family_field, any_byte, command_rest, from_command, signature_field, block}
+use Rattle.fields.specs.BlockFields.{Command, local, proxy, command_of, command, always, skipped_bytes, port, tlvs, addresses, family_field, any_byte, signature_field}
+use Rattle.fields.proofs.BlockFields.{any_length, skipped, block_length_field, addressed, family_rest, command_rest, from_command, block}
 use Rattle.fields.specs.Lengths.{fits}
 use Rattle.fields.specs.Places.{AddressField, Clear, Tcp}
 

@@ -14,9 +14,10 @@ use Rattle.record.specs.declared.Record.{Record}
 use Rattle.header.specs.Block.{signature, LOCAL, Block}
 use Rattle.header.specs.Header.{Header, Whole}
 use Rattle.header.specs.Demand.{Judges}
-use Rattle.fields.specs.BlockFields.{block}
+use Rattle.fields.proofs.BlockFields.{block}
 use Rattle.fields.proofs.Counts.{block_low}
-use Rattle.fields.specs.Exactness.{line_field, is_p, verdict}
+use Rattle.fields.specs.Exactness.{line_field, is_p}
+use Rattle.fields.proofs.HeaderVerdict.{verdict}
 use Rattle.fields.proofs.Exactness.{judges, judges_only, judges_within, whole_bytes, one_header, bytes_enough}
 use Rattle.fields.proofs.FactsForProofs.{block_bounds, line_first, block_first}
 use Rattle.fields.proofs.Facts.{longest_line, header_length}

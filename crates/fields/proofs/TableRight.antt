@@ -6,7 +6,7 @@ use Rattle.ip4.specs.Ip4Verdict.{ip4_verdict}
 use Rattle.header.specs.Header.{Header}
 use Rattle.header.specs.Demand.{Judges}
 use Rattle.header.specs.Table.{Row, table, least_table, Right}
-use Rattle.fields.specs.Exactness.{verdict}
+use Rattle.fields.proofs.HeaderVerdict.{verdict}
 use Rattle.fields.proofs.Exactness.{judges}
 
 abbrev Computed : List Row → Type 0

@@ -1,21 +1,19 @@
--- Demand 3, whole, about the definitions: the verdict on a header's bytes is the one that the claim allows, and no other is.
-use Rattle.std.specs.Prelude.{◌≡◌, refl, Bool, true, false, List, [], ◌++◌, ℕ, eqb}
+-- The field of a version 1 line, and the addresses in it. The header's field, of either version, and the verdict on its bytes stand in
+-- proofs/HeaderVerdict.antt: each carries its proof, so that an edit of what it rests on is read there and not here.
+use Rattle.std.specs.Prelude.{◌≡◌, refl, Bool, true, List, [], ◌++◌, ℕ, eqb}
 use Rattle.std.proofs.Common.{sym, ap, ◌∙◌, append-nil, inl, inr, arith}
-use Rattle.exact.specs.Claim.{Verdict}
 use Rattle.exact.specs.Ended.{Ended}
 use Rattle.exact.specs.Field.{Opens, flat}
 use Rattle.exact.specs.Machine.{leaf}
 use Rattle.exact.specs.Parser.{Starts, ◌then◌, recast}
-use Rattle.exact.proofs.ParserLemmas.{just, either}
+use Rattle.exact.proofs.ParserLemmas.{just}
 use Rattle.exact.proofs.Parser.{starts_seq}
 use Rattle.exact.proofs.LiteralLaws.{starts_text}
 use Rattle.ip4.proofs.Ip4Parser.{ip4}
 use Rattle.ip6.specs.Parser.{ip6}
 use Rattle.ip6.proofs.Parser.{space_ends}
 use Rattle.header.specs.Line.{Ip6Address, group_bytes}
-use Rattle.header.specs.Header.{Header}
 use Rattle.fields.specs.LineFields.{Headers, AddressParser, line}
-use Rattle.fields.specs.BlockFields.{block}
 
 -- ── the address fields ──
 abbrev pub address4 : AddressParser
@@ -64,13 +62,3 @@ line_field = line address4 address6
 
 pub line_starts : Starts is_p true line_field.field
 line_starts = starts_seq is_p true _ _ (starts_text {A = ℕ} is_p 1 0 80 _)
-
-pub block_starts : Starts is_p false block.field
-block_starts = starts_seq is_p false _ _ (starts_text {A = ℕ} is_p 1 0 0x0D _)
-
-abbrev pub header : Headers
-header = either is_p line_field block line_starts block_starts
-
--- the verdict on the bytes so far, as a function
-abbrev pub verdict : List ℕ → Verdict Header
-verdict s = header.verdict s

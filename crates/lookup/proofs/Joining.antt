@@ -43,13 +43,6 @@ empty_area = ([], (refl, tt))
 pub empty_list : tlvs_of [] ≡ []
 empty_list = refl
 
--- so the list of three joined areas is their lists joined, however either is grouped
-pub three_lists : (f g h : List ℕ) → WellFormed f → WellFormed g → WellFormed h → tlvs_of (f ++ (g ++ h)) ≡ (tlvs_of f ++ tlvs_of g) ++ tlvs_of h
-three_lists f g h x y z =
-    ap tlvs_of (sym (append_assoc f g h))
-    ∙ join_list (f ++ g) h (join_well_formed f g x y) z
-    ∙ ap (λ (l : List Tlv). l ++ tlvs_of h) (join_list f g x y)
-
 -- ── 4. lookup in a join ──
 -- first, of lists of TLVs
 module _ (a b : List Tlv) (wanted limit : ℕ) where
@@ -121,13 +114,6 @@ calls_join f g x y wanted limit r s t in-first in-second in-join =
 -- ── 5. "If the first part and the join are well-formed, so is the second" ──
 pub second_well_formed : (f g : List ℕ) → WellFormed f → WellFormed (f ++ g) → WellFormed g
 second_well_formed f g x w = let r = area_behind f g x.0 w.0 x.1 w.1 in (r.0, r.2)
-
--- so behind a well-formed part an ill-formed one makes the join ill-formed, and lookup answers 12, count 0
-pub join_ill_formed : (f g : List ℕ) → WellFormed f → (WellFormed g → ⊥) → WellFormed (f ++ g) → ⊥
-join_ill_formed f g x not w = not (second_well_formed f g x w)
-
-pub lookup_ill_formed : (f g : List ℕ) → WellFormed f → (WellFormed g → ⊥) → (wanted limit : ℕ) → lookup_of (f ++ g) wanted limit ≡ ill_formed
-lookup_ill_formed f g x not wanted limit = lookup_refused (f ++ g) wanted limit (join_ill_formed f g x not)
 
 -- ── what does not follow ──
 -- behind the head of a TLV with a value of three bytes, three bytes are that value

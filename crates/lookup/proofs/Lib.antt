@@ -4,3 +4,4 @@ pub mod JoinedLists
 pub mod Joining
 pub mod Laws
 pub mod LookupLemmas
+pub mod JoinedFurther

@@ -137,7 +137,8 @@ pub fn admit_header(
 ) -> Answer
     ensures { told_answer result ≡ by_version version (origin_of kind) (drop at header.now) (length header.now) (source_level (rows_of table.now) (origin_of kind) source.now) }
 {
-    if version != 2 {
+    let other = version != 2;
+    if other {
         return Answer::Denied(Denial::Version);
     }
     match origin_of(kind) {

@@ -10,7 +10,7 @@ use Rattle.kind_code.specs.Codes.{code_of}
 use Rattle.kind_code.specs.States.{state_byte}
 use Rattle.header.specs.Header.{Header}
 use Rattle.header.specs.Demand.{Judges}
-use Rattle.fields.specs.Exactness.{verdict}
+use Rattle.fields.proofs.HeaderVerdict.{verdict}
 use Rattle.fields.proofs.Exactness.{judges}
 use Rattle.fields.proofs.Facts.{refusal_number, area_last, record_plain}
 use Rattle.lent.specs.Buffers.{over}

@@ -19,7 +19,7 @@ use Rattle.record.specs.declared.Record.{Record}
 use Rattle.record.specs.Records.{with_checksum, bare}
 use Rattle.kind_code.specs.States.{state_byte}
 use Rattle.header.specs.Header.{Header, Whole}
-use Rattle.fields.specs.Exactness.{verdict}
+use Rattle.fields.proofs.HeaderVerdict.{verdict}
 use Rattle.fields.proofs.Facts.{area_filled, record_plain}
 use Rattle.lent.specs.Buffers.{over, told_in}
 use Rattle.lent.proofs.BufferLaws.{roomy, over-over}

@@ -1,7 +1,7 @@
 // What C callers are told of received bytes and of stored ones. No public function has a `requires`.
 #![tactic(auto)]
 
-ghost use Rattle.fields.specs.Exactness.{verdict as verdict_on};
+ghost use Rattle.fields.proofs.HeaderVerdict.{verdict as verdict_on};
 ghost use Rattle.stored_form.specs.Loading.{load_answer};
 ghost use Rattle.checksum.specs.State.{checked_verdict};
 ghost use Rattle.read_interface.specs.ReadInterface.{spoken, spoken_checked, ReadTold};

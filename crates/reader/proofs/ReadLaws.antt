@@ -10,8 +10,9 @@ use Rattle.exact.specs.Claim.{Verdict, more}
 use Rattle.exact.specs.Pick.{pick}
 use Rattle.header.specs.Header.{Header}
 use Rattle.header.specs.Demand.{Judges}
-use Rattle.fields.specs.BlockFields.{block}
-use Rattle.fields.specs.Exactness.{is_p, line_field, verdict}
+use Rattle.fields.proofs.BlockFields.{block}
+use Rattle.fields.specs.Exactness.{is_p, line_field}
+use Rattle.fields.proofs.HeaderVerdict.{verdict}
 use Rattle.fields.proofs.Exactness.{judges}
 use Rattle.answer.specs.declared.Seen.{Seen}
 use Rattle.answer.specs.Sight.{reading_of, caller_by, Sees}

@@ -1,7 +1,7 @@
 -- What the reader promises: demand 3 of document 01.
 use Rattle.std.specs.Prelude.{List, ℕ}
 use Rattle.header.specs.Demand.{Judges}
-use Rattle.fields.specs.Exactness.{verdict}
+use Rattle.fields.proofs.HeaderVerdict.{verdict}
 use Rattle.answer.specs.declared.Reading.{Reading}
 use Rattle.answer.specs.Answers.{Answers, told_reading}
 

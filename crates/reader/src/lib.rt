@@ -2,7 +2,7 @@
 #![tactic(auto)]
 
 ghost use Rattle.std.specs.Prelude.{◌≡◌};
-ghost use Rattle.fields.specs.Exactness.{verdict as verdict_on};
+ghost use Rattle.fields.proofs.HeaderVerdict.{verdict as verdict_on};
 ghost use Rattle.answer.specs.Sight.{record_by, reading_of, caller_by};
 ghost use Rattle.reader.specs.Read.{Reads};
 

@@ -16,7 +16,7 @@ use Rattle.tlv.specs.Heads.{size_at, tlv_at}
 use Rattle.tlv.proofs.Heads.{size_room, tlv_size, tlv_area, tlv_split}
 use Rattle.tlv_step.specs.Step.{Step, shown, end, refused, head_at}
 use Rattle.tlv_step.proofs.Facts.{head_due}
-use Rattle.lookup.proofs.Joining.{join_ill_formed}
+use Rattle.lookup.proofs.JoinedFurther.{join_ill_formed}
 use Rattle.ssl_reader.specs.Ssl.{Part, Said, accepted, part_of, parts_of, nothing, is_absent, lacks_version, client_of, verify_of, said_by, said_in}
 use Rattle.ssl_reader.proofs.Laws.{said_listed, said_ill}
 use Rattle.ssl_reader.specs.Noted.{found_part, found_parts, noted}

@@ -22,10 +22,10 @@ use Rattle.admission.proofs.admit.Goals as goal
 promise : (table s : List ℕ) (a : Admission) → a ≡ admission table s → (a ≡ admission table s) × Admits table s a
 promise table s a e = (e, subst (Admits table s) (sym e) (admits table s))
 
-pub returns-then-not-is_good_table : goal.returns-then-not-is_good_table
-returns-then-not-is_good_table c =
+pub returns-then-bad : goal.returns-then-bad
+returns-then-bad c =
     let x = c.args in
-    let bad : good_table x.table.now ≡ false = sym c.is_good_table.ensures ∙ c.if-not-is_good_table.true in
+    let bad : good_table x.table.now ≡ false = sym c.is_good_table-good.ensures ∙ c.if-bad.true in
     promise x.table.now x.bytes.now (denied 34) (rw bad)
 
 -- the area from 16 + A on is the header's, where it is looked at
@@ -68,7 +68,7 @@ module _ (c : After-read-reading) where
 
   good : Good table
   good =
-      (table_tested table).0 (sym c.is_good_table.ensures ∙ c.if-not-is_good_table.false)
+      (table_tested table).0 (sym c.is_good_table-good.ensures ∙ c.if-bad.false)
 
   judged : (v : Verdict) → reading.verdict ≡ v → Judges (told_verdict bytes v reading) bytes
   judged v e = subst (λ (w : Verdict). Judges (told_verdict bytes w reading) bytes) e c.read-reading.ensures.judged

@@ -1,7 +1,7 @@
 -- The numbers that are too few, the table, and then what `read` has told.
 use Rattle.std.proofs.Common.{◌≡◌, sym, ap, ◌∙◌, subst, false, List, ℕ, ◌≤◌, arith, length, take, drop, get_or}
 use Rattle.lent.proofs.BufferLaws.{roomy, cramped}
-use Rattle.fields.specs.Exactness.{verdict}
+use Rattle.fields.proofs.HeaderVerdict.{verdict}
 use Rattle.read_interface.specs.ReadInterface.{spoken, ReadTold}
 use Rattle.read_interface.proofs.AcceptedTold.{AcceptedTold, accepted_told}
 use Rattle.record.specs.declared.Kind.{Kind}

@@ -8,7 +8,8 @@ use Rattle.exact.specs.Scans.{told}
 use Rattle.exact.specs.declared.Scan.{Scan}
 use Rattle.header.specs.Block.{signature}
 use Rattle.fields.specs.LineFields.{Headers}
-use Rattle.fields.specs.BlockFields.{signature_field, from_command}
+use Rattle.fields.specs.BlockFields.{signature_field}
+use Rattle.fields.proofs.BlockFields.{from_command}
 use Rattle.answer.proofs.StageLaws.{sees_as, as_first}
 use Rattle.block.proofs.block.Goals.{After-literal}
 use Rattle.block.proofs.block.Goals as goal

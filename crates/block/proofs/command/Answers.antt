@@ -2,7 +2,8 @@
 use Rattle.std.proofs.Common.{ℕ, ◌≤◌, ◌≡◌, refl, sym, ap, ◌∙◌, List, arith, ne_eqb, length, drop, get_or, length-drop, get_or-drop}
 use mathlib.Core.Option.{some, none}
 use Rattle.exact.specs.Claim.{AllBytes}
-use Rattle.fields.specs.BlockFields.{local, proxy, command_of, command, command_rest, from_command}
+use Rattle.fields.specs.BlockFields.{local, proxy, command_of, command}
+use Rattle.fields.proofs.BlockFields.{command_rest, from_command}
 use Rattle.answer.proofs.StageLaws.{as_end, as_refused, as_accepted}
 use Rattle.block_body.proofs.Takes.{bytes_of, bytes_drop}
 use Rattle.block_body.proofs.Leaves.{byte_full}

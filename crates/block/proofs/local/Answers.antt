@@ -2,7 +2,8 @@
 use Rattle.std.proofs.Common.{ℕ, ◌≤◌, refl, sym, List, arith, length, drop, get_or, length-drop}
 use Rattle.record.specs.declared.Kind.TheVariants.{Local}
 use Rattle.record.specs.Records.{bare}
-use Rattle.fields.specs.BlockFields.{local, command_rest, any_byte, skipped}
+use Rattle.fields.specs.BlockFields.{local, any_byte}
+use Rattle.fields.proofs.BlockFields.{command_rest, skipped}
 use Rattle.answer.proofs.StageLaws.{as_end, as_accepted}
 use Rattle.block_body.proofs.Takes.{bytes_of, bytes_drop}
 use Rattle.block_body.proofs.Leaves.{any_full}

@@ -2,7 +2,8 @@
 use Rattle.std.proofs.Common.{ℕ, ◌≤◌, ◌≡◌, refl, sym, ap, ◌∙◌, List, arith, length, drop, get_or, length-drop, get_or-drop}
 use Rattle.exact.specs.Claim.{AllBytes}
 use Rattle.record.specs.Kinds.{family}
-use Rattle.fields.specs.BlockFields.{family_field, family_rest, from_family}
+use Rattle.fields.specs.BlockFields.{family_field}
+use Rattle.fields.proofs.BlockFields.{family_rest, from_family}
 use Rattle.answer.proofs.StageLaws.{as_end, as_refused, as_accepted}
 use Rattle.record.specs.declared.Family.{Family}
 use Rattle.record.specs.KnownFamily.{told_family}

@@ -4,8 +4,10 @@ use Rattle.exact.specs.Claim.{AllBytes, accepted, more}
 use Rattle.exact.specs.Network.{number_at}
 use Rattle.record.specs.declared.Kind.{Kind}
 use Rattle.record.specs.Kinds.{block_length}
-use Rattle.fields.specs.Lengths.{fits, fits_least, lowest-fits}
-use Rattle.fields.specs.BlockFields.{block_length_field, block_small, block_length_byte, addresses}
+use Rattle.fields.specs.Lengths.{fits}
+use Rattle.fields.proofs.LengthField.{fits_least, lowest-fits}
+use Rattle.fields.proofs.BlockFields.{block_length_field}
+use Rattle.fields.specs.BlockFields.{block_small, block_length_byte, addresses}
 use Rattle.answer.proofs.StageLaws.{sees_as, as_refused, as_accepted}
 use Rattle.block_body.proofs.Parts.{number_at_lem}
 use Rattle.block_body.proofs.Takes.{bytes_of, bytes_drop}

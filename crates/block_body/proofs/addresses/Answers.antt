@@ -7,8 +7,9 @@ use Rattle.exact.specs.declared.Scan.{Scan}
 use Rattle.tlv.specs.RegionVerdict.{judge}
 use Rattle.record.specs.declared.Kind.{Kind}
 use Rattle.record.specs.Kinds.{block_length}
-use Rattle.fields.specs.Lengths.{fits_least}
-use Rattle.fields.specs.BlockFields.{addresses, asks_area, area-least, block_small}
+use Rattle.fields.proofs.LengthField.{fits_least}
+use Rattle.fields.specs.BlockFields.{addresses, asks_area, block_small}
+use Rattle.fields.proofs.BlockFields.{area-least}
 use Rattle.answer.proofs.StageLaws.{sees_as, said}
 use Rattle.block_body.proofs.Takes.{bytes_of, short_at}
 use Rattle.block_body.proofs.AddressLaws.{Reached, addresses_short, tlvs_more, tlvs_refused, tlvs_accepted, tlvs_inside}

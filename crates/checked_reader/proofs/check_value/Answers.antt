@@ -10,10 +10,10 @@ use Rattle.checked_reader.proofs.FirstLaws.{inside, within, another, odd_size, o
 use Rattle.checked_reader.proofs.check_value.Goals.{After-has_none, After-is_right, Start}
 use Rattle.checked_reader.proofs.check_value.Goals as goal
 
-pub returns-then-size-ne4 : goal.returns-then-size-ne4
-returns-then-size-ne4 c =
+pub returns-then-odd : goal.returns-then-odd
+returns-then-odd c =
     let x = c.args in
-    sym (odd_size x.header.now x.area.now x.start x.size c.requires (λ four. omega (arith, c.if-size-ne4.true)))
+    sym (odd_size x.header.now x.area.now x.start x.size c.requires (λ four. omega (arith, c.if-odd.true)))
 
 pub overflow_add-start : goal.overflow_add-start
 overflow_add-start c =
@@ -59,7 +59,7 @@ module _ (c : After-is_right) where
       let x = (start d).args in
       ap (λ (y : Bool). pick y (some Matched) none) (sym e ∙ c.is_right.ensures)
       ∙ sym
-      (one_value x.header.now x.area.now x.start x.size (start d).requires (omega (arith, d.if-size-ne4.false))
+      (one_value x.header.now x.area.now x.start x.size (start d).requires (omega (arith, d.if-odd.false))
       (tested d ∙ c.if-not-has_none.false) _ refl)
 
 pub returns-then-is_right : goal.returns-then-is_right

@@ -9,7 +9,7 @@ use Rattle.record.specs.declared.Checksum.TheVariants.{Absent}
 use Rattle.record.specs.declared.Record.{Record}
 use Rattle.record.specs.Records.{with_checksum, bare}
 use Rattle.header.specs.Header.{Header}
-use Rattle.fields.specs.Exactness.{verdict}
+use Rattle.fields.proofs.HeaderVerdict.{verdict}
 use Rattle.answer.specs.declared.Verdict.{Verdict}
 use Rattle.answer.specs.declared.Verdict.TheVariants.{Accepted, More, Refused}
 use Rattle.answer.specs.declared.Reading.{Reading}

@@ -106,7 +106,7 @@ module _ (l : Grew) where
   turn = (goal.at.After-grow-in-loop-i l).After-shared_slice_known-in-loop-i-1
 
   move : (r : Grown) → l.grow-in-loop-i.result ≡ r → step turn (behind (number turn)) (get_or (text turn) (at turn) 0) ≡ move_of r
-  move r e = behind-digit _ _ _ _ l.if-c-end.false l.if-n-eq0.false ∙ sym l.grow-in-loop-i.ensures ∙ ap move_of e
+  move r e = behind-digit _ _ _ _ l.if-c-end.false l.if-zero.false ∙ sym l.grow-in-loop-i.ensures ∙ ap move_of e
 
 -- ── what is asked ──
 pub returns-then-s-eq0 : goal.returns-then-s-eq0
@@ -128,10 +128,10 @@ returns-then-c-end c =
     let it = answered (entry (begun (goal.at.returns-then-c-end c).After-shared_slice_known-in-loop-i-1)) (λ k m. ends (goal.at.returns-then-c-end c).After-shared_slice_known-in-loop-i-1 k m (behind_end _ _ _ _ c.if-c-end.true)) in
     record { verdict = it.0; claim = it.1 }
 
-pub returns-then-n-eq0 : goal.returns-then-n-eq0
-returns-then-n-eq0 c =
-    let it = answered (entry (begun (goal.at.returns-then-n-eq0 c).After-shared_slice_known-in-loop-i-1))
-    (λ k m. dies (goal.at.returns-then-n-eq0 c).After-shared_slice_known-in-loop-i-1 k m (behind_zero _ _ _ _ c.if-c-end.false c.if-n-eq0.true)) in
+pub returns-then-zero : goal.returns-then-zero
+returns-then-zero c =
+    let it = answered (entry (begun (goal.at.returns-then-zero c).After-shared_slice_known-in-loop-i-1))
+    (λ k m. dies (goal.at.returns-then-zero c).After-shared_slice_known-in-loop-i-1 k m (behind_zero _ _ _ _ c.if-c-end.false c.if-zero.true)) in
     record { verdict = it.0; claim = it.1 }
 
 pub returns-in_default-grow : goal.returns-in_default-grow

@@ -8,8 +8,8 @@ use Rattle.profile.specs.Answers.{told_origin}
 use Rattle.profile.proofs.admit_header.Goals.{After-origin_of, In-Local, Start}
 use Rattle.profile.proofs.admit_header.Goals as goal
 
-pub returns-then-version-ne2 : goal.returns-then-version-ne2
-returns-then-version-ne2 c = rw (ne_eqb c.args.version 2 c.if-version-ne2.true)
+pub returns-then-other : goal.returns-then-other
+returns-then-other c = rw (ne_eqb c.args.version 2 c.if-other.true)
 
 module _ (c : After-origin_of) where
   abbrev start : Start
@@ -25,7 +25,7 @@ module _ (c : After-origin_of) where
   by_origin_lem : (x : Origin) → c.origin_of.result ≡ x
       → of_origin (told_origin x) ≡ by_version start.args.version (origin_of start.args.kind) (drop start.args.at header) (length header) (source_level (rows_of start.args.table.now) (origin_of start.args.kind) start.args.source.now)
   by_origin_lem x e =
-      rw (eq-eqb start.args.version 2 c.if-version-ne2.false) (ap of_origin (ap told_origin (sym e) ∙ c.origin_of.ensures))
+      rw (eq-eqb start.args.version 2 c.if-other.false) (ap of_origin (ap told_origin (sym e) ∙ c.origin_of.ensures))
 
 pub returns-in-Local : goal.returns-in-Local
 returns-in-Local c = let told = (goal.at.returns-in-Local c).In-Local in c.admit_local.ensures ∙ by_origin_lem (goal.at.In-Local told).After-origin_of _ told.in-Local.is

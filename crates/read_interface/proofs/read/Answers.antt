@@ -1,6 +1,6 @@
 -- The reading answers the verdict, `tell` tells its numbers, and the two buffers are written where both have room.
 use Rattle.std.proofs.Common.{arith}
-use Rattle.fields.specs.Exactness.{verdict}
+use Rattle.fields.proofs.HeaderVerdict.{verdict}
 use Rattle.read_interface.specs.ReadInterface.{spoken}
 use Rattle.read_interface.proofs.ReadLaws.{few_numbers, short_connection, untouched, written}
 use Rattle.read_interface.proofs.read.Goals.{After-put_numbers, After-put_seen, After-tell-found}

@@ -3,7 +3,7 @@ use Rattle.std.proofs.Common.{◌≡◌, sym, ap, ap₂, ◌∙◌, subst, List,
 use Rattle.record.specs.declared.Record.{Record}
 use Rattle.lent.specs.Buffers.{told_in}
 use Rattle.connection.specs.Connection.{connection_size, connection_bytes}
-use Rattle.fields.specs.Exactness.{verdict}
+use Rattle.fields.proofs.HeaderVerdict.{verdict}
 use Rattle.checksum.specs.State.{state_from, state_on}
 use Rattle.checked_reader.specs.declared.Check.{Check}
 use Rattle.checked_reader.specs.CheckedReading.{told_check}
