@@ -1,4 +1,4 @@
--- Lemmas on what specs/DecimalLeaf.antt defines.
+-- The leaf of decimal text that a byte ends: its verdicts are exact.
 use Rattle.std.specs.Prelude.{◌≡◌, refl, List, [], ◌∷◌, ◌↔◌, ℕ, ◌+◌, ◌*◌, ◌-◌, ◌≤◌, ◌<◌, eqb, leb}
 use Rattle.std.proofs.Common.{sym, subst, ⊎_elim, le_refl, arith, eqb-true, eq-eqb, leb-true, leb-false, le-leb}
 use Rattle.std.proofs.lemmas.Bool.{eqb-false}

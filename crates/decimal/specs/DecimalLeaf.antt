@@ -1,4 +1,4 @@
--- For proofs. The leaf of decimal text that a byte ends: its verdicts are exact.
+-- For proofs. What may follow the digits read so far. The leaf of decimal text, whose verdicts are exact, stands in proofs/DecimalParser.antt.
 use Rattle.std.specs.Prelude.{◌≡◌, List, [], ℕ, ◌≤◌}
 use Rattle.decimal.specs.Decimal.{Digits, value_on}
 use Rattle.decimal.specs.DecimalVerdict.{At, start, behind}

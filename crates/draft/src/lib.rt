@@ -47,7 +47,8 @@ fn push_number(text: &mut [u8], at: usize, base: u64, n: u64) -> usize
     requires { (2 ≤ base) × (base ≤ 16) }
     ensures { drafted text.new result ≡ appended (drafted text.old at) (numeral base n) }
 {
-    if n < base {
+    let small = n < base;
+    if small {
         return push(text, at, digit(n));
     }
     let at = push_number(text, at, base, n / base);

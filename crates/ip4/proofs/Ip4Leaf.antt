@@ -1,4 +1,4 @@
--- Lemmas on what specs/Ip4Leaf.antt defines.
+-- Lemmas on what proofs/Ip4Parser.antt defines.
 use Rattle.std.specs.Prelude.{List, [], ◌∷◌, ◌++◌, ℕ, zero, suc, ◌+◌, ◌*◌, ◌≤◌}
 use Rattle.std.proofs.Common.{arith}
 use Rattle.exact.specs.Verdicts.{Few}

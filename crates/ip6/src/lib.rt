@@ -95,7 +95,8 @@ fn group(
     while at < bytes.len() {
         let d = hex_value(table, bytes[at]);
         if d == 16 {
-            if n == 0 {
+            let empty = n == 0;
+            if empty {
                 *place = at;
                 return REFUSED;
             }

@@ -1,4 +1,4 @@
--- Lemmas on what specs/LineLeaf.antt defines.
+-- The leaf of an UNKNOWN line's end: its verdicts are exact.
 use Rattle.std.specs.Prelude.{◌≡◌, refl, Bool, List, [], ◌∷◌, ◌++◌, ◌⊎◌, ◌↔◌, ℕ, suc, ◌+◌, ◌-◌, ◌≤◌, ◌<◌, eqb, leb, ltb, length}
 use Rattle.std.proofs.Common.{sym, ap, ◌∙◌, subst, inl, inr, ⊎_elim, length-append, eqb-true, leb-true, leb-false, le-leb, ltb-true, ltb-false}
 use Rattle.std.proofs.Math.Bool.{true, false}

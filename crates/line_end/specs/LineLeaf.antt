@@ -1,4 +1,4 @@
--- For proofs. The leaf of an UNKNOWN line's end: its verdicts are exact.
+-- For proofs. The language of an UNKNOWN line's end. The leaf, whose verdicts are exact, stands in proofs/LineParser.antt.
 use Rattle.std.specs.Prelude.{List, ℕ}
 use Rattle.exact.specs.Valueless.{Valueless}
 use Rattle.line_end.specs.Line.{FirstEnd}

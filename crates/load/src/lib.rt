@@ -4,8 +4,7 @@
 ghost use Rattle.std.specs.Prelude.{◌≡◌, ◌≤◌, length};
 ghost use Rattle.kind_code.specs.States.{told_state};
 ghost use Rattle.stored_form.specs.Heads.{head_length, state_in};
-ghost use Rattle.record.specs.Records.{bare};
-ghost use Rattle.record.specs.declared.Kind.TheVariants.{Unspecified};
+ghost use Rattle.load.specs.After.{record_after};
 ghost use Rattle.stored_form.specs.Loading.{told_outcome, told_loaded, loaded_record, has_mark, has_version, load_block, load_answer};
 ghost use Rattle.stored_form.specs.Meaning.{LoadMeans};
 
@@ -48,7 +47,7 @@ fn state_in(s: &[u8], version: StoredVersion) -> State
     }
 }
 
-// Puts the record of this kind and state, where the address block is whole; else the record stays as it was lent, unspecified.
+// Puts the record of this kind and state, where the address block is whole; else the record stays as it was lent.
 fn load_block(
     s: &[u8],
     version: StoredVersion,
@@ -56,10 +55,9 @@ fn load_block(
     checksum: Checksum,
     into: &mut Record,
 ) -> Outcome
-    requires long { head_length version ≤ length s.now }
-    requires unspecified { into.old ≡ bare Unspecified }
+    requires { head_length version ≤ length s.now }
     ensures answer { told_outcome result into.new ≡ load_block version kind checksum s.now }
-    ensures put { into.new ≡ loaded_record (load_block version kind checksum s.now) }
+    ensures put { into.new ≡ record_after (load_block version kind checksum s.now) into.old }
 {
     let n = head_length(version);
     if s.len() == n + block_length(kind) {
@@ -70,12 +68,11 @@ fn load_block(
     }
 }
 
-// Puts the record that the bytes are the stored form of; else it stays as it was lent, unspecified. A record that came back by value from here and from
+// Puts the record that the bytes are the stored form of; else it stays as it was lent. A record that came back by value from here and from
 // `load_block` would be copied, and take stack, at each.
 fn load_into(s: &[u8], version: StoredVersion, into: &mut Record) -> Outcome
-    requires { into.old ≡ bare Unspecified }
     ensures answer { told_outcome result into.new ≡ load_answer version s.now }
-    ensures put { into.new ≡ loaded_record (load_answer version s.now) }
+    ensures put { into.new ≡ record_after (load_answer version s.now) into.old }
 {
     if s.len() < head_length(version) {
         return Outcome::Refused(Flaw::Length);

@@ -19,11 +19,13 @@ pub fn see(s: &[u8]) -> Seen
     ensures reads { Reads s.now (reading_of s.now result) }
     ensures caller { result.caller ≡ caller_by (verdict_on s.now) }
 {
-    if s.len() == 0 {
+    let empty = s.len() == 0;
+    if empty {
         // "PROXY UNKNOWN" and CR LF: 13 + 2.
         return more(15);
     }
-    if s[0] == b'P' { line(s) } else { block(s) }
+    let text = s[0] == b'P';
+    if text { line(s) } else { block(s) }
 }
 
 // The record of what is seen in s.

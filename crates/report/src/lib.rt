@@ -1,7 +1,7 @@
 // The programs' input and their answer line, over any stream. No public function has a `requires`.
 #![tactic(auto)]
 
-ghost use Rattle.std.specs.Prelude.{◌≡◌, ◌≤◌, length, take, IfOk, OnOk, IfSome};
+ghost use Rattle.std.specs.Prelude.{◌≡◌, ◌≤◌, ℕ, length, take, IfOk, OnOk, OnErr, IfSome};
 ghost use Rattle.std.specs.Io.{ReadsAtMost};
 ghost use Rattle.std.specs.Io.KnownBytes.{Appends, Consumes};
 ghost use Rattle.record.specs.Kinds.{transport_word, kind_word};
@@ -75,13 +75,14 @@ pub fn answer_line(reading: Reading, text: &mut [u8]) -> usize
 }
 
 // Fills the buffer from the front, until it is full or the stream ends, and answers how many bytes it put. However the stream cuts its
-// bytes, those are its first ones. A read that fails ends it: what was put by then stays, and the buffer keeps its length.
+// bytes, those are its first ones. An error is the stream's own, of the first read that fails; what was read by then is in front.
 pub fn read_full<R: Read>(reader: &mut R, buffer: &mut [u8]) -> io::Result<usize>
     ensures bound { ReadsAtMost result buffer.new }
     ensures room { length buffer.new ≡ length buffer.old }
     ensures first { IfOk result (λ n. IfSome (R.remaining reader.old)
         (λ xs. take n buffer.new ≡ take (length buffer.old) xs)) }
     ensures rest { IfOk result (λ n. Consumes (R.remaining reader.old) (R.remaining reader.new) (take n buffer.new)) }
+    ensures failed { OnErr result ((n : ℕ) × Consumes (R.remaining reader.old) (R.remaining reader.new) (take n buffer.new)) }
 {
     let mut at = 0;
     while at < buffer.len() {
@@ -94,13 +95,32 @@ pub fn read_full<R: Read>(reader: &mut R, buffer: &mut [u8]) -> io::Result<usize
     Ok(at)
 }
 
-// Writes the line to a stream, in one piece.
+// Writes the bytes to a stream. An error is the stream's own, of the first write that fails, or `WriteZero` where one takes no byte; some first
+// bytes are written then.
+fn write_whole<W: Write>(writer: &mut W, bytes: &[u8]) -> io::Result<()>
+    ensures written { OnOk result (Appends (W.contents writer.old) (W.contents writer.new) bytes.now) }
+    ensures failed { OnErr result ((n : ℕ) × Appends (W.contents writer.old) (W.contents writer.new) (take n bytes.now)) }
+{
+    let mut at = 0;
+    while at < bytes.len() {
+        let n = writer.write(&bytes[at..])?;
+        if n == 0 {
+            return Err(io::Error::from(io::ErrorKind::WriteZero));
+        }
+        at += n;
+    }
+    Ok(())
+}
+
+// Writes the line to a stream, in one piece. An error is that of a write that fails or takes no byte; some first bytes of the line are
+// written then.
 pub fn print_reading<W: Write>(writer: &mut W, reading: Reading) -> io::Result<()>
-    ensures { OnOk result (Appends (W.contents writer.old) (W.contents writer.new) (answer_line reading)) }
+    ensures written { OnOk result (Appends (W.contents writer.old) (W.contents writer.new) (answer_line reading)) }
+    ensures failed { OnErr result ((n : ℕ) × Appends (W.contents writer.old) (W.contents writer.new) (take n (answer_line reading))) }
 {
     let mut text = [0u8; 44];
     let n = answer_line(reading, &mut text);
-    writer.write_all(&text[..n])
+    write_whole(writer, &text[..n])
 }
 
 #[cfg(test)]

@@ -59,6 +59,42 @@ fn a_failed_read_is_told(rt: HostRuntime) -> io::Result<()> {
     Ok(())
 }
 
+// A stream that takes one byte a call, and fails once it has no room.
+#[derive(Drop)]
+struct Narrow {
+    room: usize,
+}
+
+impl Write for Narrow {
+    fn write(&mut self, buf: &[u8]) -> io::Result<usize> {
+        if buf.is_empty() {
+            return Ok(0);
+        }
+        if self.room == 0 {
+            return Err(io::Error::from(io::ErrorKind::ConnectionReset));
+        }
+        self.room -= 1;
+        Ok(1)
+    }
+
+    fn flush(&mut self) -> io::Result<()> {
+        Ok(())
+    }
+}
+
+// "more" and LF are five bytes.
+#[test]
+fn a_line_is_written_in_scraps(rt: HostRuntime) -> io::Result<()> {
+    let verdict = Verdict::More { least: 15 };
+    let record = blank(Kind::Unspecified);
+    let mut stream = Narrow { room: 5 };
+    print_reading(&mut stream, Reading { verdict, record })?;
+    assert!(rt; stream.room == 0);
+    let told = print_reading(&mut Narrow { room: 4 }, Reading { verdict, record });
+    assert!(rt; told.is_err());
+    Ok(())
+}
+
 #[test]
 fn a_line_is_written(rt: HostRuntime) -> io::Result<()> {
     let mut written = Vec::new(rt.alloc());

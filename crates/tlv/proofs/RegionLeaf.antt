@@ -1,4 +1,4 @@
--- Lemmas on what specs/Region.antt defines.
+-- The leaf of n bytes that TLVs fill: its verdicts are exact.
 use Rattle.std.specs.Prelude.{◌≡◌, refl, Bool, true, false, List, [], ◌∷◌, ◌↔◌, ℕ, zero, suc, ◌+◌, ◌*◌, ◌-◌, ◌≤◌, ◌<◌, ltb, leb, eqb, length}
 use Rattle.std.proofs.Common.{inl, inr, ⊎_elim, arith, ltb-true, ltb-false, lt-ltb, leb-true, leb-false, eqb-true, le-leb}
 use Rattle.std.proofs.lemmas.Bool.{eqb-false}

@@ -1,4 +1,4 @@
--- Lemmas on what specs/Rules.antt defines.
+-- Lemmas on what proofs/FillRules.antt has.
 use Rattle.std.specs.Prelude.{[], ◌∷◌, ◌↔◌, ℕ, ◌+◌, ◌*◌, ◌≤◌, ◌<◌}
 use Rattle.tlv.specs.Tlv.{Completes}
 use Rattle.tlv.proofs.Room.{high_byte_lem, some_low}

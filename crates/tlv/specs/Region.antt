@@ -1,4 +1,4 @@
--- For proofs. The leaf of n bytes that TLVs fill: its verdicts are exact.
+-- For proofs. The language of n bytes that TLVs fill. The leaf, whose verdicts are exact, stands in proofs/RegionLeaf.antt.
 use Rattle.std.specs.Prelude.{List, ℕ}
 use Rattle.exact.specs.Valueless.{Valueless}
 use Rattle.tlv.specs.Tlv.{Filled}

@@ -35,7 +35,8 @@ pub fn unique_id(area: &[u8]) -> UniqueId
             if size < 1 {
                 return UniqueId::Missing;
             }
-            if 128 < size {
+            let long = 128 < size;
+            if long {
                 return UniqueId::Missing;
             }
             UniqueId::Value {

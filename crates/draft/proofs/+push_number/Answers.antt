@@ -10,9 +10,9 @@ push_number-at-requires t c =
     let l : c.args.n / c.args.base < c.args.n = div-lt_self (omega arith) (omega arith) in
     (omega arith, c.requires)
 
-pub returns-then-n-base : goal.returns-then-n-base
-returns-then-n-base t c =
-    rw (c.push.ensures, c.digit.ensures, numeral_one c.args.base c.requires.0 c.args.n c.if-n-base.true)
+pub returns-then-small : goal.returns-then-small
+returns-then-small t c =
+    rw (c.push.ensures, c.digit.ensures, numeral_one c.args.base c.requires.0 c.args.n c.if-small.true)
 
 pub returns : goal.returns
 returns t c =
@@ -21,5 +21,5 @@ returns t c =
       c.digit-2.ensures,
       c.push_number-at.ensures,
       appended_more,
-      numeral_more c.args.base c.requires.0 c.args.n c.if-n-base.false,
+      numeral_more c.args.base c.requires.0 c.args.n c.if-small.false,
     )

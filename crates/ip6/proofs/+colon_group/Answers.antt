@@ -67,7 +67,7 @@ module _ (t : ℕ) (c : group-After-hex_value-d t) where
 pub group-colon-requires : goal.group-colon-requires
 group-colon-requires t c =
     let at = (goal.at.group-colon-requires t c).After-hex_value-d in (
-      let z = c.decreases in let a = c.loop-at.invariant.0 in let b = c.if-n-eq0.false in let d = inside t at in omega arith,
+      let z = c.decreases in let a = c.loop-at.invariant.0 in let b = c.if-empty.false in let d = inside t at in omega arith,
       (push_sized _ c.loop-at.invariant.3 c.requires.1 _, c.requires.2, c.requires.3),
     )
 
@@ -75,7 +75,7 @@ pub group-returns-then-d-eq16 : goal.group-returns-then-d-eq16
 group-returns-then-d-eq16 t c =
     let at = (goal.at.group-returns-then-d-eq16 t c).After-hex_value-d in
     c.loop-at.invariant.4 _ _
-    (group_ends c.loop-at.invariant.3 c.requires.1 (inside t at) (is_none t at c.if-d-eq16.true) c.if-n-eq0.false c.colon.ensures)
+    (group_ends c.loop-at.invariant.3 c.requires.1 (inside t at) (is_none t at c.if-d-eq16.true) c.if-empty.false c.colon.ensures)
 
 pub group-returns-then-full : goal.group-returns-then-full
 group-returns-then-full t c =
@@ -110,7 +110,7 @@ group-loop-at-preserved t c =
     )
 
 -- the bytes end in the group
-pub group-returns-else-n-eq0-2 : goal.group-returns-else-n-eq0-2
-group-returns-else-n-eq0-2 t c =
+pub group-returns-else-n-eq0 : goal.group-returns-else-n-eq0
+group-returns-else-n-eq0 t c =
     c.loop-at.invariant.4 _ _
-    (group_goes_on c.loop-at.invariant.3 c.requires.1 c.loop-at-test.false c.least_behind-behind.ensures c.if-n-eq0-2.false)
+    (group_goes_on c.loop-at.invariant.3 c.requires.1 c.loop-at-test.false c.least_behind-behind.ensures c.if-n-eq0.false)

@@ -8,9 +8,10 @@ use Rattle.address_block.specs.AddressBlock.{block_record}
 use Rattle.address_block.proofs.AddressBlockLaws.{address_fits, port_fits}
 use Rattle.stored_form.specs.declared.StoredVersion.{StoredVersion}
 use Rattle.stored_form.proofs.HeadLaws.{seven_at_most}
-use Rattle.stored_form.specs.Loading.{loads, loaded_record}
+use Rattle.stored_form.specs.Loading.{LoadAnswer, loads}
 use Rattle.stored_form.proofs.LoadLaws.{block_length_lem, block_whole}
 use Rattle.load.proofs.load_block.Goals.{After-addresses_of, After-block_length, Start, Then-s-n}
+use Rattle.load.specs.After.{record_after}
 use Rattle.load.proofs.load_block.Goals as goal
 
 module _ (c : After-block_length) where
@@ -52,7 +53,7 @@ returns-then-s-n c =
     ∙ ap (block_record (kind d)) (tail_all d.head_length-n.result (bytes d) ∙ ap (λ (m : ℕ). drop m (bytes d)) h))
     in
     let whole = block_whole (version d) (kind d) (checksum d) (bytes d) (omega arith) in
-    record { answer = ap loads made ∙ sym whole; put = made ∙ ap loaded_record (sym whole) }
+    record { answer = ap loads made ∙ sym whole; put = made ∙ ap (λ (a : LoadAnswer). record_after a c.args.into.now) (sym whole) }
 
 pub returns-else-s-n : goal.returns-else-s-n
 returns-else-s-n c =
@@ -61,4 +62,4 @@ returns-else-s-n c =
     let n = d.block_length.ensures in
     let other = c.if-s-n.false in
     let short = block_length_lem (version d) (kind d) (checksum d) (bytes d) (λ same. other (omega arith)) in
-    record { answer = sym short; put = c.requires.unspecified ∙ ap loaded_record (sym short) }
+    record { answer = sym short; put = ap (λ (a : LoadAnswer). record_after a c.args.into.now) (sym short) }

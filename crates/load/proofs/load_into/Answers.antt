@@ -11,9 +11,10 @@ use Rattle.kind_code.specs.States.{told_state}
 use Rattle.stored_form.specs.declared.StoredVersion.{StoredVersion}
 use Rattle.stored_form.specs.Heads.{head_length, state_in}
 use Rattle.stored_form.proofs.HeadLaws.{six_at_least}
-use Rattle.stored_form.specs.Loading.{no_record, loaded_record, has_mark, has_version, load_block, load_answer}
+use Rattle.stored_form.specs.Loading.{LoadAnswer, no_record, has_mark, has_version, load_block, load_answer}
 use Rattle.stored_form.proofs.LoadLaws.{answer_short, answer_mark, answer_version, answer_code, answer_no_state, answer_state}
 use Rattle.load.proofs.load_into.Goals.{After-clean_state, After-has_mark, After-has_version, After-head_length, After-kind_of, After-state_in, Else-s-head_length, In-Known, In-Known-state_in}
+use Rattle.load.specs.After.{record_after}
 use Rattle.load.proofs.load_into.Goals as goal
 
 module _ (c : After-head_length) where
@@ -24,8 +25,9 @@ module _ (c : After-head_length) where
   version = c.args.version
 
   -- a refusal leaves the record that was lent
-  refused : {k : ℕ} → load_answer version bytes ≡ no_record k → (no_record k ≡ load_answer version bytes) × (c.args.into.now ≡ loaded_record (load_answer version bytes))
-  refused e = (sym e, c.requires ∙ ap loaded_record (sym e))
+  refused : {k : ℕ} → load_answer version bytes ≡ no_record k
+      → (no_record k ≡ load_answer version bytes) × (c.args.into.now ≡ record_after (load_answer version bytes) c.args.into.now)
+  refused e = (sym e, ap (λ (a : LoadAnswer). record_after a c.args.into.now) (sym e))
 
 pub returns-then-s-head_length : goal.returns-then-s-head_length
 returns-then-s-head_length c =
@@ -124,8 +126,7 @@ returns-in-Unknown-state_in c =
     record { answer = it.0; put = it.1 }
 
 pub load_block-requires : goal.load_block-requires
-load_block-requires c =
-    record { long = long (lengthy (tested (coded (goal.at.load_block-requires c).After-state_in))); unspecified = c.requires }
+load_block-requires c = long (lengthy (tested (coded (goal.at.load_block-requires c).After-state_in)))
 
 -- behind the state
 module _ (c : After-clean_state) where
@@ -153,7 +154,7 @@ pub returns-then-clean_state : goal.returns-then-clean_state
 returns-then-clean_state c =
     let d = (goal.at.returns-then-clean_state c).After-clean_state in
     let e = by_state d true c.if-clean_state.true in
-    record { answer = c.load_block.ensures.answer ∙ sym e; put = c.load_block.ensures.put ∙ ap loaded_record (sym e) }
+    record { answer = c.load_block.ensures.answer ∙ sym e; put = c.load_block.ensures.put ∙ ap (λ (a : LoadAnswer). record_after a c.args.into.now) (sym e) }
 
 pub returns-else-clean_state : goal.returns-else-clean_state
 returns-else-clean_state c =

@@ -123,15 +123,15 @@ returns-then-size-lt1 c =
     let s = size e in
     sized e false (leb (first_value (w e).0).size 128) (lt-leb 1 (first_value (w e).0).size (omega arith)) refl
 
-pub returns-then-size-gt128 : goal.returns-then-size-gt128
-returns-then-size-gt128 c =
-    let e = (goal.at.returns-then-size-gt128 c).After-lookup-found in
+pub returns-then-long : goal.returns-then-long
+returns-then-long c =
+    let e = (goal.at.returns-then-long c).After-lookup-found in
     let s = size e in
     sized e true false (le-leb 1 (first_value (w e).0).size (omega arith)) (lt-leb (first_value (w e).0).size 128 (omega arith))
 
-pub returns-else-size-gt128 : goal.returns-else-size-gt128
-returns-else-size-gt128 c =
-    let e = (goal.at.returns-else-size-gt128 c).After-lookup-found in
+pub returns-else-long : goal.returns-else-long
+returns-else-long c =
+    let e = (goal.at.returns-else-long c).After-lookup-found in
     let s = size e in
     let start = start_is (bytes (d e)) (w e) (one e) e.lookup-found.result e.lookup-found.ensures in
     ap₂ (λ (x y : ℕ). some (record { start = x; size = y })) start s
