@@ -112,7 +112,7 @@ fn write_whole<W: Write>(writer: &mut W, bytes: &[u8]) -> io::Result<()>
     Ok(())
 }
 
-// Writes the line to a stream, in one piece. An error is that of a write that fails or takes no byte; some first bytes of the line are
+// Writes the line to a stream: offered whole, and again from where the stream stopped. An error is that of a write that fails or takes no byte; some first bytes of the line are
 // written then.
 pub fn print_reading<W: Write>(writer: &mut W, reading: Reading) -> io::Result<()>
     ensures written { OnOk result (Appends (W.contents writer.old) (W.contents writer.new) (answer_line reading)) }
