@@ -96,7 +96,7 @@ pub fn read_full<R: Read>(reader: &mut R, buffer: &mut [u8]) -> io::Result<usize
 }
 
 // Writes the bytes to a stream. An error is the stream's own, of the first write that fails, or `WriteZero` where one takes no byte; some first
-// bytes are written then.
+// bytes are written then. (std's `write_all` says nothing of what an error leaves.)
 fn write_whole<W: Write>(writer: &mut W, bytes: &[u8]) -> io::Result<()>
     ensures written { OnOk result (Appends (W.contents writer.old) (W.contents writer.new) bytes.now) }
     ensures failed { OnErr result ((n : ℕ) × Appends (W.contents writer.old) (W.contents writer.new) (take n bytes.now)) }
@@ -112,8 +112,8 @@ fn write_whole<W: Write>(writer: &mut W, bytes: &[u8]) -> io::Result<()>
     Ok(())
 }
 
-// Writes the line to a stream: offered whole, and again from where the stream stopped. An error is that of a write that fails or takes no byte; some first bytes of the line are
-// written then.
+// Writes the line to a stream: offered whole, and again from where the stream stopped. An error is that of a write that fails or takes no
+// byte; some first bytes of the line are written then.
 pub fn print_reading<W: Write>(writer: &mut W, reading: Reading) -> io::Result<()>
     ensures written { OnOk result (Appends (W.contents writer.old) (W.contents writer.new) (answer_line reading)) }
     ensures failed { OnErr result ((n : ℕ) × Appends (W.contents writer.old) (W.contents writer.new) (take n (answer_line reading))) }
