@@ -1,4 +1,4 @@
--- Hex digits (document 01, "The text line").
+-- Hex digits of the text line.
 use Rattle.std.specs.Prelude.{Bool, false, ℕ, ◌+◌, ◌-◌, leb}
 use Prim.Native.Char.{Char, code}
 use Rattle.exact.specs.Pick.{pick}

@@ -1,5 +1,4 @@
--- The table by which hex digits are valued (document 02, K5: "a look-up in a table whose rule is proved over the whole table"): an entry for
--- each byte from 0 to "f".
+-- The table by which hex digits are valued, and its rule, which is proved over the whole table: an entry for each byte from 0 to "f".
 use Rattle.std.specs.Prelude.{◌≡◌, List, ℕ, leb, get_or}
 use Prim.Native.Char.{code}
 use Rattle.exact.specs.Pick.{pick}
@@ -9,6 +8,6 @@ use Rattle.hex_digits.specs.Hex.{hex_of}
 abbrev pub looked : List ℕ → ℕ → ℕ
 looked t c = pick (leb c (code "f")) (get_or t c 0) 16
 
--- the rule: a look-up gives the value of a hex digit, "Same answers for all 256 bytes"
+-- the rule: a look-up gives the value of a hex digit, of each byte
 pub record HexTable (t : List ℕ) : Type 0 where
   pub value : (c : ℕ) → looked t c ≡ hex_of c

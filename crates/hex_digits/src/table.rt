@@ -3,7 +3,7 @@
 // How many entries it has.
 pub const HEX_ENTRIES: usize = 103;
 
-pub const VALUES: [u8; HEX_ENTRIES] = [
+pub static VALUES: [u8; HEX_ENTRIES] = [
     // no digit before "0"
     16, 16, 16, 16, 16, 16, 16, 16, 16, 16, 16, 16, 16, 16, 16, 16, 16, 16, 16, 16, 16, 16, 16, 16,
     16, 16, 16, 16, 16, 16, 16, 16, 16, 16, 16, 16, 16, 16, 16, 16, 16, 16, 16, 16, 16, 16, 16, 16,

@@ -9,7 +9,6 @@ ghost use Rattle.std.specs.Prelude.{◌≡◌, ℕ, ◌+◌, ◌^◌, ◌<◌, l
 ghost use Rattle.exact.specs.Claim.{Claim};
 ghost use Rattle.exact.specs.Ended.{Ended};
 ghost use Rattle.exact.specs.Machine.{run};
-ghost use Rattle.hex_digits.specs.Table.{HexTable};
 ghost use Rattle.ip6.specs.Address.{Address, Ending};
 ghost use Rattle.ip6.specs.Machine.{start, digits, behind, least_address, step};
 ghost use Rattle.ip6.specs.ScannedAddress.{told_address, Unused};
@@ -18,7 +17,7 @@ ghost use Rattle.ip6.specs.Answer.{scan_of, From, Closed};
 
 use colon_part::{Part, colon_part, least_behind};
 use exact::Scan;
-use hex_digits::{HEX_ENTRIES, hex_table, hex_value};
+use hex_digits::hex_value;
 
 // What a scan of an address finds. The groups are those of an accepted address, and 0 where none is accepted.
 #[derive(Drop)]
@@ -44,8 +43,7 @@ fn spread_out(groups: &mut [u16; 8], count: usize, gap: usize)
 
 // What the functions below answer: one of these numbers, and in place the length of an accepted address, how few bytes could finish it, or
 // the place of the byte that rules it out. A `Scan` would come back through memory, at each of their calls. `group` and `colon` take the slice behind a reference:
-// a slice itself would be copied into the caller's memory at each call, and the call could be no jump. The table of hex digits is lent to them all: it is filled
-// once for an address.
+// a slice itself would be copied into the caller's memory at each call, and the call could be no jump.
 const ACCEPTED: u8 = 0;
 
 const MORE: u8 = 1;
@@ -78,13 +76,12 @@ fn group(
     s: &&[u8],
     i: usize,
     end: u8,
-    table: &[u8; HEX_ENTRIES],
     groups: &mut [u16; 8],
     count: usize,
     gap: usize,
     place: &mut usize,
 ) -> u8
-    requires { Sized (sofar groups.old count gap) × (count < 8) × (length s.now.now < 2 ^ 64) × HexTable table.now }
+    requires { Sized (sofar groups.old count gap) × (count < 8) × (length s.now.now < 2 ^ 64) }
     ensures { From end s.now.now i (digits (gathered_of (sofar groups.old count gap)) 0 0)
         (scan_of result place.new) groups.new }
 {
@@ -93,7 +90,7 @@ fn group(
     let mut n: usize = 0;
     let mut at = i;
     while at < bytes.len() {
-        let d = hex_value(table, bytes[at]);
+        let d = hex_value(bytes[at]);
         if d == 16 {
             let empty = n == 0;
             if empty {
@@ -101,7 +98,7 @@ fn group(
                 return REFUSED;
             }
             groups[count] = v;
-            return colon(s, at, end, table, groups, count + 1, gap, place);
+            return colon(s, at, end, groups, count + 1, gap, place);
         }
         let full = n == 4;
         if full {
@@ -123,13 +120,12 @@ fn colon(
     s: &&[u8],
     i: usize,
     end: u8,
-    table: &[u8; HEX_ENTRIES],
     groups: &mut [u16; 8],
     count: usize,
     gap: usize,
     place: &mut usize,
 ) -> u8
-    requires { Sized (sofar groups.old count gap) × (length s.now.now < 2 ^ 64) × HexTable table.now }
+    requires { Sized (sofar groups.old count gap) × (length s.now.now < 2 ^ 64) }
     ensures { From end s.now.now i (behind (gathered_of (sofar groups.old count gap)))
         (scan_of result place.new) groups.new }
 {
@@ -143,19 +139,13 @@ fn colon(
             REFUSED
         }
         Part::End { at, count, gap } => finished(groups, count, gap, at, place),
-        Part::Group { at, count, gap } => group(s, at, end, table, groups, count, gap, place),
+        Part::Group { at, count, gap } => group(s, at, end, groups, count, gap, place),
     }
 }
 
 // The answer from the first byte on.
-fn begun(
-    s: &[u8],
-    end: u8,
-    table: &[u8; HEX_ENTRIES],
-    groups: &mut [u16; 8],
-    place: &mut usize,
-) -> u8
-    requires { Sized (sofar groups.old 0 0) × HexTable table.now }
+fn begun(s: &[u8], end: u8, groups: &mut [u16; 8], place: &mut usize) -> u8
+    requires { Sized (sofar groups.old 0 0) }
     ensures { From end s.now 0 start (scan_of result place.new) groups.new }
 {
     if s.len() == 0 {
@@ -163,9 +153,9 @@ fn begun(
         return MORE;
     }
     if s[0] == b':' {
-        colon(&s, 0, end, table, groups, 0, 0, place)
+        colon(&s, 0, end, groups, 0, 0, place)
     } else {
-        group(&s, 0, end, table, groups, 0, 0, place)
+        group(&s, 0, end, groups, 0, 0, place)
     }
 }
 
@@ -178,8 +168,7 @@ pub fn address(s: &[u8], end: u8) -> Scanned
 {
     let mut groups = [0u16; 8];
     let mut place: usize = 0;
-    let table = hex_table();
-    let answer = begun(s, end, &table, &mut groups, &mut place);
+    let answer = begun(s, end, &mut groups, &mut place);
     if answer == ACCEPTED {
         let scan = Scan::Accepted(0, place);
         return Scanned { scan, groups };

@@ -1,15 +1,21 @@
--- The byte's entry, and 16 behind the table's end.
-use Rattle.std.proofs.Common.{◌≡◌, List, ℕ, ◌≤◌, arith, get_or, le-leb}
-use borrow.Author.Tests.{lt-leb}
-use Rattle.hex_digits.specs.Table.{looked}
+-- By the table's rule, which is tested at each entry.
+use Rattle.std.proofs.Common.{◌≡◌, refl, ◌∙◌, ℕ, ◌≤◌, arith, get_or, le-leb, sym}
+use Rattle.hex_digits.specs.declared.table.TheConstants.{VALUES}
+use Rattle.hex_digits.specs.Hex.{hex_of}
+use Rattle.hex_digits.specs.Table.{HexTable, looked}
+use Rattle.hex_digits.proofs.HexLaws.{hex_behind}
+use Rattle.hex_digits.proofs.Tested.{tested}
 use Rattle.hex_digits.proofs.hex_value.Goals as goal
 
--- the entry at i is the byte's where i is the byte
-entry : (t : List ℕ) (c i : ℕ) → i ≡ c → c ≤ 102 → get_or t i 0 ≡ looked t c
-entry t c i same h = simp (le-leb c 102 h, same)
+the_table : HexTable VALUES
+unfolding hex_of
+the_table = tested VALUES refl
+
+entry : (c : ℕ) → c ≤ 102 → get_or VALUES c 0 ≡ hex_of c
+entry c h = let within : looked VALUES c ≡ get_or VALUES c 0 = simp (le-leb c 102 h) in sym within ∙ the_table.value c
 
 pub returns-then-i-ge-HEX_ENTRIES : goal.returns-then-i-ge-HEX_ENTRIES
-returns-then-i-ge-HEX_ENTRIES c = simp (lt-leb c.args.c 102 (omega arith))
+returns-then-i-ge-HEX_ENTRIES c = sym (hex_behind c.args.c (omega arith))
 
 pub returns : goal.returns
-returns c = let x = c.args in entry x.table.now x.c _ (omega arith) (omega arith)
+returns c = entry c.args.c (omega arith)

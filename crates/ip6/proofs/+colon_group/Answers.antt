@@ -30,7 +30,7 @@ colon-finished-requires t c =
 pub colon-group-requires : goal.colon-group-requires
 colon-group-requires t c =
     let l = leads t (goal.at.colon-group-requires t c).After-colon_part _ c.in-Group.is in
-    (let z = c.decreases in let low = l.2 in let h = l.3 in omega arith, (l.0, l.1, c.requires.1, c.requires.2))
+    (let z = c.decreases in let low = l.2 in let h = l.3 in omega arith, (l.0, l.1, c.requires.1))
 
 pub colon-returns-in-More : goal.colon-returns-in-More
 colon-returns-in-More t c = leads t (goal.at.colon-returns-in-More t c).After-colon_part _ c.in-More.is _
@@ -50,7 +50,7 @@ module _ (t : ℕ) (c : group-After-hex_value-d t) where
   inside = c.loop-at-test.true
 
   valued : c.hex_value-d.result ≡ hex_of (get_or c.args.s.now.now c.loop-at.at 0)
-  valued = c.hex_value-d.ensures ∙ c.requires.3.value _
+  valued = c.hex_value-d.ensures
 
   is_none : c.hex_value-d.result ≡ 16 → hex_of (get_or c.args.s.now.now c.loop-at.at 0) ≡ 16
   is_none e = sym valued ∙ e
@@ -68,7 +68,7 @@ pub group-colon-requires : goal.group-colon-requires
 group-colon-requires t c =
     let at = (goal.at.group-colon-requires t c).After-hex_value-d in (
       let z = c.decreases in let a = c.loop-at.invariant.0 in let b = c.if-empty.false in let d = inside t at in omega arith,
-      (push_sized _ c.loop-at.invariant.3 c.requires.1 _, c.requires.2, c.requires.3),
+      (push_sized _ c.loop-at.invariant.3 c.requires.1 _, c.requires.2),
     )
 
 pub group-returns-then-d-eq16 : goal.group-returns-then-d-eq16
