@@ -14,7 +14,7 @@ use numbers::{NUMBERS, Told, put_numbers};
 use prefix_table::is_good_table;
 use profile::{Answer, admit_header, denial_number};
 use read_interface::read;
-use record::{Family, Kind};
+use record::Kind;
 
 // An answer that tells one number.
 fn tell_one(answer: u32, first: u64) -> Told
@@ -59,8 +59,8 @@ fn kind_from(code: u8) -> Kind
     ensures { result ≡ kind_from code }
 {
     match kind_of(code) {
-        Family::Known(kind) => kind,
-        Family::Unknown => Kind::Unspecified,
+        Some(kind) => kind,
+        None => Kind::Unspecified,
     }
 }
 

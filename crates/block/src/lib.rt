@@ -11,7 +11,7 @@ ghost use Rattle.answer.specs.Sight.{Sees};
 use answer::{Refusal, Seen, more, refused};
 use block_body::from_length;
 use exact::{Scan, literal};
-use record::{Family, Kind, family_of};
+use record::{Kind, family_of};
 
 // From byte 13 on, under LOCAL: it is not looked at. Before it the least is the byte and a length of 0: 1 + 2.
 fn local(s: &[u8]) -> Seen
@@ -31,8 +31,8 @@ fn proxy(s: &[u8]) -> Seen
         return more(3);
     }
     match family_of(s[13]) {
-        Family::Known(kind) => from_length(s, kind),
-        Family::Unknown => refused(Refusal::Family, 13),
+        Some(kind) => from_length(s, kind),
+        None => refused(Refusal::Family, 13),
     }
 }
 

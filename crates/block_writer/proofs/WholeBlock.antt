@@ -1,8 +1,7 @@
 -- What the version 2 writer writes keeps the rules of a block.
-use Rattle.std.specs.Prelude.{◌≡◌, refl, List, [], ◌∷◌, ◌++◌, ℕ, ◌<◌, length, take}
+use Rattle.std.specs.Prelude.{◌≡◌, refl, List, [], ◌∷◌, ◌++◌, ℕ, ◌<◌, length, take, Some}
 use Rattle.std.proofs.Common.{sym, ap₂, ◌∙◌, inl, inr, arith}
 use Rattle.std.proofs.Math.Path.{ap}
-use Rattle.std.proofs.Math.Option.{some}
 use Rattle.exact.specs.Network.{network}
 use Rattle.tlv.proofs.AreaBytes.{area_bytes}
 use Rattle.record.specs.declared.Transport.TheVariants.{Stream, Datagram}
@@ -26,7 +25,7 @@ proxy_command (Ip4 t) has = refl
 proxy_command (Ip6 t) has = refl
 proxy_command (Unix t) has = refl
 
-byte_kind : (k : Kind) → HasAddresses k → family (byte_of k) ≡ some k
+byte_kind : (k : Kind) → HasAddresses k → family (byte_of k) ≡ Some k
 byte_kind Local has = absurd has
 byte_kind Unspecified has = absurd has
 byte_kind (Ip4 Stream) has = refl

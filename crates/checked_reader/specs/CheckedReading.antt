@@ -1,6 +1,5 @@
 -- What a checked reading answers, in the claim's words and document 02's number.
-use Rattle.std.specs.Prelude.{◌≡◌, List, ℕ}
-use Rattle.std.proofs.Math.Option.{Option, some, none}
+use Rattle.std.specs.Prelude.{◌≡◌, List, ℕ, Option, Some, None}
 use Rattle.record.specs.declared.Kind.TheVariants.{Unspecified}
 use Rattle.record.specs.declared.Checksum.{Checksum}
 use Rattle.record.specs.declared.Record.{Record}
@@ -18,8 +17,8 @@ use Rattle.checked_reader.specs.declared.CheckedReading.{CheckedReading}
 
 -- a state, or none where the checksum is wrong
 abbrev pub told_check : Check → Option Checksum
-told_check (State c) = some c
-told_check Wrong = none
+told_check (State c) = Some c
+told_check Wrong = None
 
 abbrev pub as_reading : Verdict → Record → Reading
 as_reading v r = record { verdict = v; «record» = r }

@@ -1,7 +1,6 @@
 -- What holds of checked readings of all bytes (document 02, K6): one answer is claimed, and bytes that follow never change an acceptance or refusal.
-use Rattle.std.specs.Prelude.{◌≡◌, refl, List, [], ◌++◌, ◌⊎◌, ℕ, length, take}
+use Rattle.std.specs.Prelude.{◌≡◌, refl, List, [], ◌++◌, ◌⊎◌, ℕ, length, take, Option, Some, None}
 use Rattle.std.proofs.Common.{sym, ap, ◌∙◌, subst, inl, inr, ⊎_elim, arith}
-use Rattle.std.proofs.Math.Option.{Option, some, none}
 use Rattle.std.proofs.lemmas.List.{take-append-le}
 use Rattle.exact.specs.Claim.{Verdict, accepted, more, refused}
 use Rattle.tlv.specs.Tlv.{Tlv}
@@ -60,10 +59,10 @@ pub checks : (s : List ℕ) → Checks s (checked_verdict s)
 checks s = by (verdict s) (judges s)
   where
     by_state_lem : (h : Header) (n : ℕ) → Judges (accepted h n) s → (x : Option Checksum) → Means (take n s) (tlvs_in h) x → Checks s (by_state h n x)
-    by_state_lem h n j (some Absent) (no_checksum e) =
+    by_state_lem h n j (Some Absent) (no_checksum e) =
         subst (λ (g : Header). Checks s (judged (accepted g n))) (sym (plain_absent (take n s) h j.1)) (absent h n j (λ has. e))
-    by_state_lem h n j (some Matched) (right r) = matched h n j (of_address_kind (take n s) h j.1 (right_some (take n s) (tlvs_in h) r)) r
-    by_state_lem h n j none (is-wrong w) = wrong h n j (of_address_kind (take n s) h j.1 (wrong_some (take n s) (tlvs_in h) w)) w
+    by_state_lem h n j (Some Matched) (right r) = matched h n j (of_address_kind (take n s) h j.1 (right_some (take n s) (tlvs_in h) r)) r
+    by_state_lem h n j None (is-wrong w) = wrong h n j (of_address_kind (take n s) h j.1 (wrong_some (take n s) (tlvs_in h) w)) w
 
     by : (v : Verdict Header) → Judges v s → Checks s (checked_by v (state_on s v))
     by (accepted h n) j = by_state_lem h n j (state_in (take n s) (tlvs_in h)) (state_means (take n s) (tlvs_in h))
@@ -81,11 +80,11 @@ checks_only s v c = by v c
     state h n j x m = ap (by_state h n) (sym (means_one (take n s) (tlvs_in h) x m)) ∙ told (accepted h n) j
 
     by : (v : CheckedVerdict) → Checks s v → v ≡ checked_verdict s
-    by (refuses _) (wrong h n j kind w) = state h n j none (is-wrong w)
-    by (judged _) (matched h n j kind r) = state h n j (some Matched) (right r)
+    by (refuses _) (wrong h n j kind w) = state h n j None (is-wrong w)
+    by (judged _) (matched h n j kind r) = state h n j (Some Matched) (right r)
     by (judged _) (absent h n j e) =
         ap (λ (g : Header). judged (accepted g n)) (sym (plain_absent (take n s) h j.1))
-        ∙ state h n j (some Absent) (no_checksum (without (take n s) h j.1 e))
+        ∙ state h n j (Some Absent) (no_checksum (without (take n s) h j.1 e))
     by (judged _) (unfinished n j) = told (more n) j
     by (judged _) (no_header k p j) = told (refused k p) j
 

@@ -1,7 +1,6 @@
 -- Lemmas on what specs/State.antt defines.
-use Rattle.std.specs.Prelude.{◌≡◌, refl, Bool, true, false, List, [], ◌∷◌, ℕ, ◌≤◌, length}
+use Rattle.std.specs.Prelude.{◌≡◌, refl, Bool, true, false, List, [], ◌∷◌, ℕ, ◌≤◌, length, Option, Some, None}
 use Rattle.std.proofs.Common.{ap, ◌∙◌, arith}
-use Rattle.std.proofs.Math.Option.{Option, some, none}
 use Rattle.exact.specs.Pick.{pick}
 use Rattle.lent.specs.Same.{same}
 use Rattle.lent.proofs.Same.{same_equal}
@@ -16,7 +15,7 @@ module _ (f : List ℕ) (tlvs : List Tlv) where
   means_by [] e = no_checksum e
   means_by (value ∷ []) e = by (same value (checksum_of f tlvs)) refl
     where
-      by : (b : Bool) → same value (checksum_of f tlvs) ≡ b → Means f tlvs (pick b (some Matched) none)
+      by : (b : Bool) → same value (checksum_of f tlvs) ≡ b → Means f tlvs (pick b (Some Matched) None)
       by true t = right (e ∙ ap (λ (v : List ℕ). v ∷ []) ((same_equal value (checksum_of f tlvs)).0 t))
       by false t =
           wrong (differs value e (λ s. let u = (same_equal value (checksum_of f tlvs)).1 s in let z : ◌≡◌ {A = ℕ} 0 1 = cc in omega arith))
@@ -29,8 +28,8 @@ module _ (f : List ℕ) (tlvs : List Tlv) where
   by_values : {values : List (List ℕ)} → values_of 0x03 tlvs ≡ values → state_in f tlvs ≡ state_by values (checksum_of f tlvs)
   by_values = ap (λ (v : List (List ℕ)). state_by v (checksum_of f tlvs))
 
-  one : (value : List ℕ) (b : Bool) → same value (checksum_of f tlvs) ≡ b → values_of 0x03 tlvs ≡ value ∷ [] → state_in f tlvs ≡ pick b (some Matched) none
-  one value b e v = by_values v ∙ ap (λ (x : Bool). pick x (some Matched) none) e
+  one : (value : List ℕ) (b : Bool) → same value (checksum_of f tlvs) ≡ b → values_of 0x03 tlvs ≡ value ∷ [] → state_in f tlvs ≡ pick b (Some Matched) None
+  one value b e v = by_values v ∙ ap (λ (x : Bool). pick x (Some Matched) None) e
 
   other : (value : List ℕ) → (value ≡ checksum_of f tlvs → ⊥) → same value (checksum_of f tlvs) ≡ false
   other value n = by (same value (checksum_of f tlvs)) refl
@@ -39,15 +38,15 @@ module _ (f : List ℕ) (tlvs : List Tlv) where
       by true t = absurd (n ((same_equal value (checksum_of f tlvs)).0 t))
       by false t = refl
 
-  more_than_one : (values : List (List ℕ)) → 2 ≤ length values → state_by values (checksum_of f tlvs) ≡ none
+  more_than_one : (values : List (List ℕ)) → 2 ≤ length values → state_by values (checksum_of f tlvs) ≡ None
   more_than_one [] h = absurd (omega arith)
   more_than_one (value ∷ []) h = absurd (omega arith)
   more_than_one (value ∷ another ∷ rest) h = refl
 
   -- no other state means that
   pub means_one : (x : Option Checksum) → Means f tlvs x → state_in f tlvs ≡ x
-  means_one (some Absent) (no_checksum e) = by_values e
-  means_one (some Matched) (right r) = one (checksum_of f tlvs) true ((same_equal (checksum_of f tlvs) (checksum_of f tlvs)).1 refl) r
-  means_one none (wrong (differs value v n)) = one value false (other value n) v
-  means_one none (wrong (not_four value v n)) = one value false (other value (λ e. n (ap length e))) v
-  means_one none (wrong (several h)) = more_than_one (values_of 0x03 tlvs) h
+  means_one (Some Absent) (no_checksum e) = by_values e
+  means_one (Some Matched) (right r) = one (checksum_of f tlvs) true ((same_equal (checksum_of f tlvs) (checksum_of f tlvs)).1 refl) r
+  means_one None (wrong (differs value v n)) = one value false (other value n) v
+  means_one None (wrong (not_four value v n)) = one value false (other value (λ e. n (ap length e))) v
+  means_one None (wrong (several h)) = more_than_one (values_of 0x03 tlvs) h

@@ -1,6 +1,5 @@
 -- The same as functions: the state of a header, and the answer to bytes.
-use Rattle.std.specs.Prelude.{◌≡◌, List, [], ◌∷◌, ℕ, take, drop}
-use Rattle.std.proofs.Math.Option.{Option, some, none}
+use Rattle.std.specs.Prelude.{◌≡◌, List, [], ◌∷◌, ℕ, take, drop, Option, Some, None}
 use Rattle.exact.specs.Claim.{Verdict, accepted, more, refused}
 use Rattle.exact.specs.Pick.{pick}
 use Rattle.lent.specs.Same.{same}
@@ -16,33 +15,33 @@ use Rattle.checksum.specs.Checked.{CheckedVerdict, judged, refuses, tlvs_in, in_
 
 -- by the values of the 0x03 TLVs, and the checksum: the state, or none where the checksum is wrong
 abbrev pub state_by : List (List ℕ) → List ℕ → Option Checksum
-state_by [] sum = some Absent
-state_by (value ∷ []) sum = pick (same value sum) (some Matched) none
-state_by (value ∷ another ∷ rest) sum = none
+state_by [] sum = Some Absent
+state_by (value ∷ []) sum = pick (same value sum) (Some Matched) None
+state_by (value ∷ another ∷ rest) sum = None
 
 abbrev pub state_in : List ℕ → List Tlv → Option Checksum
 state_in f tlvs = state_by (values_of 0x03 tlvs) (checksum_of f tlvs)
 
 -- the state of the header f whose TLV area starts at this place; absent where TLVs do not fill what is there
 abbrev pub state_from : List ℕ → (start : ℕ) → Option Checksum
-state_from f start = pick (well_formed (drop start f)) (state_in f (tlvs_of (drop start f))) (some Absent)
+state_from f start = pick (well_formed (drop start f)) (state_in f (tlvs_of (drop start f))) (Some Absent)
 
 -- what the state of the header f with these TLVs means
 pub data Means (f : List ℕ) (tlvs : List Tlv) : Option Checksum → Type 0 where
-  no_checksum : values_of 0x03 tlvs ≡ [] → Means f tlvs (some Absent)
-  right : Right f tlvs → Means f tlvs (some Matched)
-  wrong : Wrong f tlvs → Means f tlvs none
+  no_checksum : values_of 0x03 tlvs ≡ [] → Means f tlvs (Some Absent)
+  right : Right f tlvs → Means f tlvs (Some Matched)
+  wrong : Wrong f tlvs → Means f tlvs None
 
 -- what a checked reading answers, by the verdict on the bytes
 abbrev pub by_state : Header → ℕ → Option Checksum → CheckedVerdict
-by_state h n (some c) = judged (accepted (in_state c h) n)
-by_state h n none = refuses 23
+by_state h n (Some c) = judged (accepted (in_state c h) n)
+by_state h n None = refuses 23
 
 -- the state of the header that the bytes begin with; absent where there is none
 abbrev pub state_on : List ℕ → Verdict Header → Option Checksum
 state_on s (accepted h n) = state_in (take n s) (tlvs_in h)
-state_on s (more n) = some Absent
-state_on s (refused k p) = some Absent
+state_on s (more n) = Some Absent
+state_on s (refused k p) = Some Absent
 
 abbrev pub checked_by : Verdict Header → Option Checksum → CheckedVerdict
 checked_by (accepted h n) state = by_state h n state

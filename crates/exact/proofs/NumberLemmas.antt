@@ -1,7 +1,6 @@
 -- Lemmas on what specs/Number.antt defines.
-use Rattle.std.specs.Prelude.{◌≡◌, refl, Bool, true, false, List, [], ◌∷◌, ◌++◌, ℕ, suc, ◌/◌, ◌%◌, ◌≤◌, ◌<◌}
+use Rattle.std.specs.Prelude.{◌≡◌, refl, Bool, true, false, List, [], ◌∷◌, ◌++◌, ℕ, suc, ◌/◌, ◌%◌, ◌≤◌, ◌<◌, Some, None}
 use Rattle.std.proofs.Common.{sym, ap, ap₂, ◌∙◌, subst, inl, inr, arith}
-use Rattle.std.proofs.Math.Option.{some, none}
 use Rattle.exact.specs.Field.{Opens}
 use Rattle.exact.specs.Machine.{leaf}
 use Rattle.exact.specs.Pick.{pick}
@@ -11,11 +10,11 @@ use Rattle.exact.specs.Byte.{one_byte}
 use Rattle.exact.specs.Number.{Number, any, low}
 
 module _ (good : ℕ → Bool) where
-  pub low_some : (h c : ℕ) (b : Bool) → good (number h c) ≡ b → (n : ℕ) → pick b (some (number h c)) none ≡ some n → (n ≡ number h c) × (b ≡ true)
+  pub low_some : (h c : ℕ) (b : Bool) → good (number h c) ≡ b → (n : ℕ) → pick b (Some (number h c)) None ≡ Some n → (n ≡ number h c) × (b ≡ true)
   low_some h c true e n s = (cc, refl)
   low_some h c false e n s = (let z : ◌≡◌ {A = ℕ} 0 1 = cc in absurd (omega arith), let z : ◌≡◌ {A = ℕ} 0 1 = cc in absurd (omega arith))
 
-  pub some_low : (h c : ℕ) (b : Bool) → b ≡ true → pick b (some (number h c)) none ≡ some (number h c)
+  pub some_low : (h c : ℕ) (b : Bool) → b ≡ true → pick b (Some (number h c)) None ≡ Some (number h c)
   some_low h c b e = rw e
 
   -- under the weight u: for each high byte the low byte that makes the best number, and the best high byte
@@ -27,12 +26,12 @@ module _ (good : ℕ → Bool) where
       abbrev pub low_least : ℕ → ℕ
       low_least h = suc (u (number h (low-best h).0))
 
-      pub low_least_lem : (h d b : ℕ) → d < 256 → low good h d ≡ some b → u (number h (low-best h).0) ≤ u b
+      pub low_least_lem : (h d b : ℕ) → d < 256 → low good h d ≡ Some b → u (number h (low-best h).0) ≤ u b
       low_least_lem h d b small e =
           let q = low_some h d (good (number h d)) refl b e in
           subst (λ (n : ℕ). u (number h (low-best h).0) ≤ u n) (sym q.0) ((low-best h).3 d small q.1)
 
-      pub high_least : (d b : ℕ) → d < 256 → any d ≡ some b → low_least high-best.0 ≤ low_least b
+      pub high_least : (d b : ℕ) → d < 256 → any d ≡ Some b → low_least high-best.0 ≤ low_least b
       high_least d b small e =
           let same : d ≡ b = cc in
           let best = high-best.2 d small in
@@ -83,7 +82,7 @@ module _ (good : ℕ → Bool) where
               small = omega arith;
               value =
                   some_low (n / 256) (n % 256) (good (number (n / 256) (n % 256))) (subst (λ (m : ℕ). good m ≡ true) (sym whole) l.fits)
-                  ∙ ap some whole;
+                  ∙ ap Some whole;
             };
           }
 

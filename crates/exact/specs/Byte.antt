@@ -1,7 +1,6 @@
 -- For proofs. The leaf of one byte whose value a table gives, and the leaf of a number of bytes of any values.
-use Rattle.std.specs.Prelude.{◌≡◌, refl, List, [], ◌∷◌, ℕ, zero, suc, ◌+◌, ◌≤◌, ◌<◌, ltb, length, replicate}
+use Rattle.std.specs.Prelude.{◌≡◌, refl, List, [], ◌∷◌, ℕ, zero, suc, ◌+◌, ◌≤◌, ◌<◌, ltb, length, replicate, Option, Some, None}
 use Rattle.std.proofs.Common.{sym, ap, ◌∙◌, subst, arith, ltb-true, ltb-false, lt-ltb}
-use Rattle.std.proofs.Math.Option.{Option, some, none}
 use Rattle.std.proofs.lemmas.List.{length-replicate}
 use Rattle.exact.specs.Claim.{Verdict, accepted, AllBytes}
 use Rattle.exact.specs.Field.{Least, Exact}
@@ -16,11 +15,11 @@ module _ {A : Type 0} (table : ℕ → Option A) where
     pub byte : ℕ
     pub split : f ≡ byte ∷ []
     pub small : byte < 256
-    pub value : table byte ≡ some a
+    pub value : table byte ≡ Some a
 
   abbrev pub found : Option A → Move (Unit {0}) A
-  found (some a) = done a
-  found none = dead
+  found (Some a) = done a
+  found None = dead
 
   abbrev pub step_byte : Unit {0} → ℕ → Move (Unit {0}) A
   step_byte q c = pick (ltb c 256) (found (table c)) dead
@@ -29,19 +28,19 @@ module _ {A : Type 0} (table : ℕ → Option A) where
   Any q = Unit {0}
 
   found_sound : (c : ℕ) (o : Option A) → table c ≡ o → c < 256 → Sound (λ q. OneByte) Any tt c (found o)
-  found_sound c (some a) e small = (
+  found_sound c (Some a) e small = (
     record { byte = c; split = refl; small = small; value = e },
     λ f b l.
         let s = l.split in
         let same : c ≡ l.byte = cc in
-        let value : some a ≡ some b = sym e ∙ ap table same ∙ l.value in
+        let value : Some a ≡ Some b = sym e ∙ ap table same ∙ l.value in
         (cc, cc),
   )
-  found_sound c none e small =
+  found_sound c None e small =
       λ f b l.
       let s = l.split in
       let same : c ≡ l.byte = cc in
-      let value : none ≡ some b = sym e ∙ ap table same ∙ l.value in
+      let value : None ≡ Some b = sym e ∙ ap table same ∙ l.value in
       let z : ◌≡◌ {A = ℕ} 0 1 = cc in
       omega arith
 
@@ -59,15 +58,15 @@ module _ {A : Type 0} (table : ℕ → Option A) where
   solid_byte q ok a l = let s = l.split in let z : ◌≡◌ {A = ℕ} 0 1 = cc in omega arith
 
   -- under a weight u: a byte c whose value a weighs least
-  module _ (u : A → ℕ) (k c : ℕ) (a : A) (small : c < 256) (e : table c ≡ some a)
-      (best : (d : ℕ) (b : A) → d < 256 → table d ≡ some b → u a ≤ u b)
+  module _ (u : A → ℕ) (k c : ℕ) (a : A) (small : c < 256) (e : table c ≡ Some a)
+      (best : (d : ℕ) (b : A) → d < 256 → table d ≡ Some b → u a ≤ u b)
     where
       abbrev pub least_byte : Unit {0} → ℕ
       least_byte q = suc (u a)
 
       found_no_less : (d : ℕ) (o : Option A) → d < 256 → table d ≡ o → NoLess least_byte u (suc (u a)) (found o)
-      found_no_less d (some b) h t = let low = best d b h t in omega arith
-      found_no_less d none h t = tt
+      found_no_less d (Some b) h t = let low = best d b h t in omega arith
+      found_no_less d None h t = tt
 
       leasts_byte : Leasts Any step_byte least_byte u
       leasts_byte =

@@ -1,6 +1,5 @@
 -- For proofs. The leaf of a 16-bit number in network order that keeps a rule.
-use Rattle.std.specs.Prelude.{◌≡◌, Bool, true, List, ℕ, ◌<◌}
-use Rattle.std.proofs.Math.Option.{Option, some, none}
+use Rattle.std.specs.Prelude.{◌≡◌, Bool, true, List, ℕ, ◌<◌, Option, Some, None}
 use Rattle.exact.specs.Pick.{pick}
 use Rattle.exact.specs.Network.{network, number}
 
@@ -10,7 +9,7 @@ pub record Number (good : ℕ → Bool) (f : List ℕ) (n : ℕ) : Type 0 where
   pub fits : good n ≡ true
 
 abbrev pub any : ℕ → Option ℕ
-any c = some c
+any c = Some c
 
 abbrev pub low : (ℕ → Bool) → ℕ → ℕ → Option ℕ
-low good h c = pick (good (number h c)) (some (number h c)) none
+low good h c = pick (good (number h c)) (Some (number h c)) None

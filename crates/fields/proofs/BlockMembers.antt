@@ -1,7 +1,6 @@
 -- Lemmas on what specs/BlockMembers.antt defines.
-use Rattle.std.specs.Prelude.{◌≡◌, refl, Bool, true, false, List, [], ◌∷◌, ◌++◌, ◌⊎◌, ◌↔◌, ℕ, ◌+◌, ◌-◌, ◌≤◌, ◌<◌, eqb, leb, length}
+use Rattle.std.specs.Prelude.{◌≡◌, refl, Bool, true, false, List, [], ◌∷◌, ◌++◌, ◌⊎◌, ◌↔◌, ℕ, ◌+◌, ◌-◌, ◌≤◌, ◌<◌, eqb, leb, length, Option, Some, None}
 use Rattle.std.proofs.Common.{sym, ap, ap₂, ◌∙◌, subst, append_assoc, append-nil, inl, inr, ⊎_elim, arith, length-append, eqb-true, leb-true}
-use Rattle.std.proofs.Math.Option.{Option, some, none}
 use Rattle.std.proofs.lemmas.Bool.{eqb-false}
 use Rattle.exact.specs.Network.{network}
 use Rattle.exact.specs.Pick.{pick}
@@ -57,7 +56,7 @@ from_skipped r f h w =
         back = [];
         mid = 0;
         split = sym (append-nil w.block);
-        first = record { size = refl; bytes = w.bytes; none = refl };
+        first = record { size = refl; bytes = w.bytes; None = refl };
         second = (refl, w.says);
       };
     }
@@ -210,13 +209,13 @@ from_addressed k f h w =
         back = b.to ++ (port_bytes k b.p ++ (port_bytes k b.q ++ w.area));
         mid = b.from;
         split = refl;
-        first = record { value = 0; whole = record { size = b.from_length; bytes = b.from_bytes; none = refl }; text = refl };
+        first = record { value = 0; whole = record { size = b.from_length; bytes = b.from_bytes; None = refl }; text = refl };
         second = record {
           front = b.to;
           back = port_bytes k b.p ++ (port_bytes k b.q ++ w.area);
           mid = b.to;
           split = refl;
-          first = record { value = 0; whole = record { size = b.to_length; bytes = b.to_bytes; none = refl }; text = refl };
+          first = record { value = 0; whole = record { size = b.to_length; bytes = b.to_bytes; None = refl }; text = refl };
           second = record {
             front = port_bytes k b.p;
             back = port_bytes k b.q ++ w.area;
@@ -264,7 +263,7 @@ local_block b f h byte w =
       s.2,
     )
 
-unspecified_block : (b : ℕ) (f : List ℕ) (h : Header) → b < 256 → family b ≡ some Unspecified → Skipped (bare Unspecified) f h → Blocked (frame PROXY b f) h
+unspecified_block : (b : ℕ) (f : List ℕ) (h : Header) → b < 256 → family b ≡ Some Unspecified → Skipped (bare Unspecified) f h → Blocked (frame PROXY b f) h
 unspecified_block b f h byte table w =
     let s = says_blocked h _ _ w.says in (
       inr
@@ -283,7 +282,7 @@ unspecified_block b f h byte table w =
       s.2,
     )
 
-address_block_lem : (k : Kind) (b : ℕ) (f : List ℕ) (h : Header) → b < 256 → family b ≡ some k → HasAddresses k → Addressed k f h → Blocked (frame PROXY b f) h
+address_block_lem : (k : Kind) (b : ℕ) (f : List ℕ) (h : Header) → b < 256 → family b ≡ Some k → HasAddresses k → Addressed k f h → Blocked (frame PROXY b f) h
 address_block_lem k b f h byte table has w =
     let s = says_blocked h _ _ w.says in (
       inr
@@ -306,35 +305,35 @@ address_block_lem k b f h byte table has w =
     )
 
 -- a table's first row, or the rest of it
-row : {A : Type 0} (b : Bool) (a x : A) (rest : Option A) → pick b (some a) rest ≡ some x → ((b ≡ true) × (a ≡ x)) ⊎ (rest ≡ some x)
+row : {A : Type 0} (b : Bool) (a x : A) (rest : Option A) → pick b (Some a) rest ≡ Some x → ((b ≡ true) × (a ≡ x)) ⊎ (rest ≡ Some x)
 row true a x rest e = inl (refl, cc)
 row false a x rest e = inr e
 
-no_row : {A C : Type 0} (x : A) → none ≡ some x → C
+no_row : {A C : Type 0} (x : A) → None ≡ Some x → C
 no_row x e = absurd (let z : ◌≡◌ {A = ℕ} 0 1 = cc in omega arith)
 
-command_byte : (c : ℕ) (x : Command) → command_of c ≡ some x → ((c ≡ LOCAL) × (local ≡ x)) ⊎ ((c ≡ PROXY) × (proxy ≡ x))
+command_byte : (c : ℕ) (x : Command) → command_of c ≡ Some x → ((c ≡ LOCAL) × (local ≡ x)) ⊎ ((c ≡ PROXY) × (proxy ≡ x))
 command_byte c x e =
     ⊎_elim (λ r. inl (eqb-true c LOCAL r.0, r.1))
-    (λ r. ⊎_elim (λ q. inr (eqb-true c PROXY q.0, q.1)) (no_row x) (row (eqb c PROXY) proxy x none r))
+    (λ r. ⊎_elim (λ q. inr (eqb-true c PROXY q.0, q.1)) (no_row x) (row (eqb c PROXY) proxy x None r))
     (row (eqb c LOCAL) local x _ e)
 
 -- local is the kind of no byte 13
 abbrev not_local : Option Kind → Bool
-not_local none = true
-not_local (some Local) = false
-not_local (some Unspecified) = true
-not_local (some (Ip4 t)) = true
-not_local (some (Ip6 t)) = true
-not_local (some (Unix t)) = true
+not_local None = true
+not_local (Some Local) = false
+not_local (Some Unspecified) = true
+not_local (Some (Ip4 t)) = true
+not_local (Some (Ip6 t)) = true
+not_local (Some (Unix t)) = true
 
-never_local : (c : ℕ) → c < 256 → family c ≡ some Local → ⊥
+never_local : (c : ℕ) → c < 256 → family c ≡ Some Local → ⊥
 never_local c small e =
     let other = each_below (λ (n : ℕ). not_local (family n)) 256 c refl small in
     let z : ◌≡◌ {A = ℕ} 0 1 = cc in
     omega arith
 
-proxy_block : (k : Kind) (b : ℕ) (f : List ℕ) (h : Header) → b < 256 → family b ≡ some k → (family_rest k).field.lang f h → Blocked (frame PROXY b f) h
+proxy_block : (k : Kind) (b : ℕ) (f : List ℕ) (h : Header) → b < 256 → family b ≡ Some k → (family_rest k).field.lang f h → Blocked (frame PROXY b f) h
 proxy_block Local b f h byte table l = absurd (never_local b byte table)
 proxy_block Unspecified b f h byte table l = unspecified_block b f h byte table (to_skipped (bare Unspecified) f h l)
 proxy_block (Ip4 t) b f h byte table l = address_block_lem (Ip4 t) b f h byte table tt (to_addressed (Ip4 t) f h l)
@@ -342,7 +341,7 @@ proxy_block (Ip6 t) b f h byte table l = address_block_lem (Ip6 t) b f h byte ta
 proxy_block (Unix t) b f h byte table l = address_block_lem (Unix t) b f h byte table tt (to_addressed (Unix t) f h l)
 
 -- behind byte 12
-rest_block : (x : Command) (c : ℕ) (f : List ℕ) (h : Header) → command_of c ≡ some x → (command_rest x).field.lang f h → Blocked (signature ++ c ∷ f) h
+rest_block : (x : Command) (c : ℕ) (f : List ℕ) (h : Header) → command_of c ≡ Some x → (command_rest x).field.lang f h → Blocked (signature ++ c ∷ f) h
 rest_block local c f h e l =
     let i : c ≡ LOCAL = ⊎_elim (λ r. r.0) (λ r. absurd (let r₁ = r.1 in let z : ◌≡◌ {A = ℕ} 0 1 = cc in omega arith)) (command_byte c local e) in
     let text : signature ++ c ∷ f ≡ frame LOCAL l.first.byte l.back = rw (i, l.split, l.first.split) in
@@ -359,7 +358,7 @@ block_members f h l =
     subst (λ (t : List ℕ). Blocked t h) (sym text) (rest_block m.mid m.first.byte m.back h m.first.value m.second)
 
 -- ── and back ──
-framed_member : (c : ℕ) (x : Command) (f rest : List ℕ) (h : Header) → c < 256 → command_of c ≡ some x → f ≡ signature ++ c ∷ rest
+framed_member : (c : ℕ) (x : Command) (f rest : List ℕ) (h : Header) → c < 256 → command_of c ≡ Some x → f ≡ signature ++ c ∷ rest
     → (command_rest x).field.lang rest h → block.field.lang f h
 framed_member c x f rest h small e split l =
     record {
@@ -390,7 +389,7 @@ local_member f h w says =
       second = from_skipped (bare Local) _ h (record { block = w.block; split = refl; small = w.framed.small; bytes = w.bytes; says = says });
     })
 
-proxy_member : (k : Kind) (b : ℕ) (f rest : List ℕ) (h : Header) → b < 256 → family b ≡ some k → f ≡ signature ++ PROXY ∷ b ∷ rest
+proxy_member : (k : Kind) (b : ℕ) (f rest : List ℕ) (h : Header) → b < 256 → family b ≡ Some k → f ≡ signature ++ PROXY ∷ b ∷ rest
     → (family_rest k).field.lang rest h → block.field.lang f h
 proxy_member k b f rest h byte table split l =
     framed_member PROXY proxy f (b ∷ rest) h (omega arith) refl split

@@ -1,7 +1,6 @@
 -- The counts of a block whose length is not whole yet: none is over 65,535.
-use Rattle.std.specs.Prelude.{◌≡◌, refl, Bool, true, List, [], ◌∷◌, ℕ, suc, ◌+◌, ◌≤◌, ◌<◌, eqb, ltb, length, drop}
+use Rattle.std.specs.Prelude.{◌≡◌, refl, Bool, true, List, [], ◌∷◌, ℕ, suc, ◌+◌, ◌≤◌, ◌<◌, eqb, ltb, length, drop, Option}
 use Rattle.std.proofs.Common.{ap, ◌∙◌, arith, length-append, length-drop, eqb-true, ltb-true}
-use Rattle.std.proofs.Math.Option.{Option}
 use Rattle.exact.specs.Claim.{Verdict, accepted, more, refused, AllBytes}
 use Rattle.exact.specs.Field.{Exact, after}
 use Rattle.exact.specs.Machine.{Move, moved, run}

@@ -1,7 +1,6 @@
 -- Lemmas on what specs/Facts.antt defines.
-use Rattle.std.specs.Prelude.{◌≡◌, refl, List, [], ◌∷◌, ◌++◌, ◌⊎◌, ℕ, suc, ◌+◌, ◌-◌, ◌≤◌, ◌<◌, length, get_or, take, drop, replicate}
+use Rattle.std.specs.Prelude.{◌≡◌, refl, List, [], ◌∷◌, ◌++◌, ◌⊎◌, ℕ, suc, ◌+◌, ◌-◌, ◌≤◌, ◌<◌, length, get_or, take, drop, replicate, Some, None}
 use Rattle.std.proofs.Common.{sym, ap, ◌∙◌, subst, append_assoc, inl, inr, ⊎_elim, lt_of_not-le, add-one, arith, length-append, drop_of_length-le, length-take-le, take-suc, drop_at}
-use Rattle.std.proofs.Math.Option.{some, none}
 use Rattle.std.proofs.Math.Seq.{split_at, take-length}
 use Rattle.exact.specs.Ascii.{ascii}
 use Rattle.exact.specs.Network.{network, number}
@@ -95,7 +94,7 @@ pub block_length_lem : (f : List ℕ) (r : Record) (area : List ℕ) → Block f
 block_length_lem f r area w = (block_bounds f r area w).0
 
 -- "01, 02, 10, 20 and 30 read as unspecified with the block not looked at and A = 0" (document 02, K1), as 00 does: any L, any block, whatever follows
-pub unspecified_read : (b : ℕ) (block t : List ℕ) → b < 256 → family b ≡ some Unspecified → length block < 65536 → AllBytes block
+pub unspecified_read : (b : ℕ) (block t : List ℕ) → b < 256 → family b ≡ Some Unspecified → length block < 65536 → AllBytes block
     → Judges (accepted unspecified_header (16 + length block)) ((signature ++ PROXY ∷ b ∷ network (length block) ++ block) ++ t)
 unspecified_read b block t byte table small bytes =
     let f = signature ++ PROXY ∷ b ∷ network (length block) ++ block in
@@ -112,12 +111,12 @@ unspecified_read b block t byte table small bytes =
     (omega arith, rw (sym size, take-length f) whole)
 
 -- "Refusal 7 is for the rest only": it is given for them
-pub family-refused : (b : ℕ) (t : List ℕ) → b < 256 → family b ≡ none → Judges (refused 7 13) (signature ++ PROXY ∷ b ∷ t)
-family-refused b t small e = by_verdict (refused 7 13) (signature ++ PROXY ∷ b ∷ t) (family-verdict b t small none e)
+pub family-refused : (b : ℕ) (t : List ℕ) → b < 256 → family b ≡ None → Judges (refused 7 13) (signature ++ PROXY ∷ b ∷ t)
+family-refused b t small e = by_verdict (refused 7 13) (signature ++ PROXY ∷ b ∷ t) (family-verdict b t small None e)
 
 -- and for nothing else: only under PROXY, at byte 13, where that is none of the twelve
 pub seven_at_thirteen : (s : List ℕ) (p : ℕ) → AllBytes s → Judges (refused 7 p) s
-    → (p ≡ 13) × (get_or s 12 0 ≡ PROXY) × (family (get_or s 13 0) ≡ none)
+    → (p ≡ 13) × (get_or s 12 0 ≡ PROXY) × (family (get_or s 13 0) ≡ None)
 seven_at_thirteen s p bytes x =
     let inside = x.0 in
     let n = number_seven (take p s) x.3 in
@@ -130,7 +129,7 @@ seven_at_thirteen s p bytes x =
     (here, rest.0, rest.1)
   where
     by : (b : ℕ) (t : List ℕ) → b < 256 → refused 7 13 ≡ verdict s → s ≡ take p s ++ b ∷ t
-        → (take p s ≡ signature ++ LOCAL ∷ []) ⊎ (take p s ≡ signature ++ PROXY ∷ []) → (get_or s 12 0 ≡ PROXY) × (family (get_or s 13 0) ≡ none)
+        → (take p s ≡ signature ++ LOCAL ∷ []) ⊎ (take p s ≡ signature ++ PROXY ∷ []) → (get_or s 12 0 ≡ PROXY) × (family (get_or s 13 0) ≡ None)
     by b t small told split (inl e) =
         let all : s ≡ signature ++ LOCAL ∷ b ∷ t = split ∙ ap (λ (u : List ℕ). u ++ b ∷ t) e in
         absurd (local_taken b t small (told ∙ ap verdict all))
@@ -149,7 +148,7 @@ length_rule f r area w =
     rw kind (⊎_elim (λ e. inl (omega arith)) (λ e. inr (omega arith)) (filled_fillable (length area) area (refl, w.tlvs)))
 
 -- "else 8 at place 15", whatever follows
-pub length_refused : (k : Kind) (b h l : ℕ) (t : List ℕ) → b < 256 → h < 256 → l < 256 → family b ≡ some k → HasAddresses k
+pub length_refused : (k : Kind) (b h l : ℕ) (t : List ℕ) → b < 256 → h < 256 → l < 256 → family b ≡ Some k → HasAddresses k
     → (number h l ≡ block_length k → ⊥) → number h l < block_length k + 3 → Judges (refused 8 15) (signature ++ PROXY ∷ b ∷ h ∷ l ∷ t)
 length_refused k b h l t small high low table has other few =
     by_verdict (refused 8 15) (signature ++ PROXY ∷ b ∷ h ∷ l ∷ t) (length_verdict k b h l t small high low other few table has)
@@ -240,13 +239,13 @@ area_empty f h (inr (inr (inr w), x)) empty =
 pub area_last : (f : List ℕ) (h : Header) → Whole f h → drop (length f - length h.area) f ≡ h.area
 area_last f h w = by w
   where
-    none : h.area ≡ [] → drop (length f - length h.area) f ≡ h.area
-    none e = rw e (let h : length f ≤ length f - 0 = omega arith in drop_of_length-le f h)
+    None : h.area ≡ [] → drop (length f - length h.area) f ≡ h.area
+    None e = rw e (let h : length f ≤ length f - 0 = omega arith in drop_of_length-le f h)
 
     by : Whole f h → drop (length f - length h.area) f ≡ h.area
-    by (inl w) = none w.2
-    by (inr (inl w, x)) = none w.2
-    by (inr (inr (inl w), x)) = none w.2
+    by (inl w) = None w.2
+    by (inr (inl w, x)) = None w.2
+    by (inr (inr (inl w), x)) = None w.2
     by (inr (inr (inr w), x)) =
         let front = signature ++ PROXY ∷ w.byte13 ∷ network (length (w.block ++ h.area)) ++ w.block in
         let split : f ≡ front ++ h.area = w.framed.split ∙ simp append_assoc in

@@ -1,8 +1,7 @@
 -- What the facts about whole headers rest on: how long the parts of a line and of a block are, which record they give, and how a
 -- block's first bytes go on.
-use Rattle.std.specs.Prelude.{◌≡◌, refl, Bool, false, List, [], ◌∷◌, ◌++◌, ◌⊎◌, ℕ, zero, suc, ◌+◌, ◌-◌, ◌*◌, ◌≤◌, ◌<◌, eqb, ltb, length, get_or, take, drop, replicate}
+use Rattle.std.specs.Prelude.{◌≡◌, refl, Bool, false, List, [], ◌∷◌, ◌++◌, ◌⊎◌, ℕ, zero, suc, ◌+◌, ◌-◌, ◌*◌, ◌≤◌, ◌<◌, eqb, ltb, length, get_or, take, drop, replicate, Option, Some, None}
 use Rattle.std.proofs.Common.{sym, ap, ap₂, ◌∙◌, subst, inl, inr, ⊎_elim, arith, length-append, drop_of_length-le, length-take-le, take_at, drop_at, eqb-true, ne_eqb, lt-ltb, ltb-true, ltb-false}
-use Rattle.std.proofs.Math.Option.{Option, some, none}
 use Rattle.std.proofs.Math.ListN.{get_or-append}
 use Rattle.std.proofs.Math.Seq.{split_at, take-append-add, take-length, append_snoc}
 use Rattle.std.proofs.lemmas.Bool.{lt-leb}
@@ -123,7 +122,7 @@ pub unknown_verdict : (body : List ℕ) (v : Verdict ℕ) → rest_field.verdict
     → verdict (ascii "PROXY UNKNOWN " ++ body) ≡ shift 6 (shift 7 (shift 1 (after v (λ y r. accepted (lined (bare Unspecified)) 0) body)))
 unknown_verdict body v e = ap (λ (w : Verdict ℕ). shift 6 (shift 7 (shift 1 (after w (λ y r. accepted (lined (bare Unspecified)) 0) body)))) e
 
-module _ (body : List ℕ) (bytes : AllBytes body) (none : NoEnd body) (size : length body ≡ 92) where
+module _ (body : List ℕ) (bytes : AllBytes body) (None : NoEnd body) (size : length body ≡ 92) where
   abbrev front : List ℕ
   front = take 91 body
 
@@ -144,13 +143,13 @@ module _ (body : List ℕ) (bytes : AllBytes body) (none : NoEnd body) (size : l
   rest_more e =
       let here : body ≡ front ++ 13 ∷ [] = body_split ∙ ap (λ (c : ℕ). front ++ c ∷ []) e in
       let h = front_size in
-      ap rest_field.verdict here ∙ long_more 5 0 93 front front_bytes (subst NoEnd here none) (omega arith)
+      ap rest_field.verdict here ∙ long_more 5 0 93 front front_bytes (subst NoEnd here None) (omega arith)
 
   pub rest_refused : (last ≡ 13 → ⊥) → rest_field.verdict body ≡ refused 5 91
   rest_refused other =
       let h = front_size in
       ap rest_field.verdict body_split
-      ∙ long_refused 5 0 93 front front_bytes last [] (subst NoEnd body_split none) (omega arith) other
+      ∙ long_refused 5 0 93 front front_bytes last [] (subst NoEnd body_split None) (omega arith) other
       ∙ ap (refused 5) front_size
 
 -- ── the places that are numbered 7 and 8: byte 13, and bytes 14 and 15 of a block ──
@@ -369,8 +368,8 @@ first_thirteen x size first l =
 module _ (b : ℕ) (t : List ℕ) (small : b < 256) where
   -- from byte 13 on, under PROXY, by what the table says of it
   abbrev behind_command : Option Kind → Verdict Header
-  behind_command none = refused 7 0
-  behind_command (some k) = shift 1 ((family_rest k).verdict t)
+  behind_command None = refused 7 0
+  behind_command (Some k) = shift 1 ((family_rest k).verdict t)
 
   abbrev by_move : Move (Unit {0}) Kind → Verdict Header
   by_move m = after (moved 7 m (run 7 (step_byte family) (λ q. 3) t)) (λ k r. (family_rest k).verdict r) (b ∷ t)
@@ -382,8 +381,8 @@ module _ (b : ℕ) (t : List ℕ) (small : b < 256) where
       ∙ ap (λ (v : Verdict Header). shift 12 (shift 1 v)) (told o)
     where
       told : (o : Option Kind) → by_move (found family o) ≡ behind_command o
-      told none = refl
-      told (some k) = refl
+      told None = refl
+      told (Some k) = refl
 
   later : (v : Verdict Header) → refused 7 13 ≡ shift 12 (shift 1 (shift 1 v)) → ⊥
   later (accepted h n) e = let z : ◌≡◌ {A = ℕ} 0 1 = cc in omega arith
@@ -391,9 +390,9 @@ module _ (b : ℕ) (t : List ℕ) (small : b < 256) where
   later (refused k p) e = let z : 13 ≡ 12 + (1 + (1 + p)) = cc in omega arith
 
   -- under PROXY refused with 7 only where the table has no row
-  pub no_family : (o : Option Kind) → refused 7 13 ≡ shift 12 (shift 1 (behind_command o)) → o ≡ none
-  no_family none e = refl
-  no_family (some k) e = absurd (later ((family_rest k).verdict t) e)
+  pub no_family : (o : Option Kind) → refused 7 13 ≡ shift 12 (shift 1 (behind_command o)) → o ≡ None
+  no_family None e = refl
+  no_family (Some k) e = absurd (later ((family_rest k).verdict t) e)
 
   abbrev by_local : Bool → Verdict Header
   by_local x = after (moved 7 (pick x (done b) dead) (run 7 (step_byte any) (λ q. 3) t)) (λ c r. (skipped (bare Local)).verdict r) (b ∷ t)
@@ -421,7 +420,7 @@ module _ (k : Kind) (b h l : ℕ) (t : List ℕ) (small : b < 256) (high : h < 2
         in
         simp (lt-ltb h 256 high, lt-ltb l 256 low, unfit)
 
-    pub length_verdict : family b ≡ some k → HasAddresses k → verdict (signature ++ PROXY ∷ b ∷ h ∷ l ∷ t) ≡ refused 8 15
+    pub length_verdict : family b ≡ Some k → HasAddresses k → verdict (signature ++ PROXY ∷ b ∷ h ∷ l ∷ t) ≡ refused 8 15
     length_verdict table has =
-        family-verdict b (h ∷ l ∷ t) small (some k) table
+        family-verdict b (h ∷ l ∷ t) small (Some k) table
         ∙ ap (λ (v : Verdict Header). shift 12 (shift 1 (shift 1 v))) (family_addressed k (h ∷ l ∷ t) has ∙ low_refused)

@@ -1,6 +1,5 @@
 -- The version 2 block as a sequence of fields. Each is judged under the fewest bytes that the fields behind it ask.
-use Rattle.std.specs.Prelude.{◌≡◌, refl, Bool, true, List, [], ◌∷◌, ℕ, ◌+◌, ◌-◌, ◌≤◌, ◌<◌, eqb}
-use Rattle.std.proofs.Math.Option.{Option, some, none}
+use Rattle.std.specs.Prelude.{◌≡◌, refl, Bool, true, List, [], ◌∷◌, ℕ, ◌+◌, ◌-◌, ◌≤◌, ◌<◌, eqb, Option, Some, None}
 use Rattle.std.proofs.Common.{arith}
 use Rattle.exact.specs.Field.{flat}
 use Rattle.exact.specs.Pick.{pick}
@@ -29,7 +28,7 @@ pub data Command : Type 0 where
   proxy : Command
 
 abbrev pub command_of : ℕ → Option Command
-command_of c = pick (eqb c LOCAL) (some local) (pick (eqb c PROXY) (some proxy) none)
+command_of c = pick (eqb c LOCAL) (Some local) (pick (eqb c PROXY) (Some proxy) None)
 
 -- both commands ask as much
 abbrev pub command : Parser Command (flat 3)

@@ -1,6 +1,5 @@
 -- The version 2 whole header (document 01, "The binary block").
-use Rattle.std.specs.Prelude.{◌≡◌, List, [], ◌∷◌, ◌++◌, ◌⊎◌, ℕ, ◌<◌, length}
-use Rattle.std.proofs.Math.Option.{some}
+use Rattle.std.specs.Prelude.{◌≡◌, List, [], ◌∷◌, ◌++◌, ◌⊎◌, ℕ, ◌<◌, length, Some}
 use Rattle.exact.specs.Claim.{AllBytes}
 use Rattle.exact.specs.Network.{network}
 use Rattle.tlv.specs.Tlv.{WellFormed}
@@ -41,7 +40,7 @@ pub record UnspecifiedBlock (f : List ℕ) : Type 0 where
   pub block : List ℕ
   pub framed : Framed PROXY byte13 block f
   pub byte : byte13 < 256
-  pub table : family byte13 ≡ some Unspecified
+  pub table : family byte13 ≡ Some Unspecified
   pub bytes : AllBytes block
 
 -- the kinds that have addresses
@@ -82,7 +81,7 @@ pub record AddressBlock (f : List ℕ) (r : Record) (area : List ℕ) : Type 0 w
   pub block : List ℕ
   pub framed : Framed PROXY byte13 (block ++ area) f
   pub byte : byte13 < 256
-  pub table : family byte13 ≡ some kind
+  pub table : family byte13 ≡ Some kind
   pub has : HasAddresses kind
   pub addresses : Addresses kind block r
   pub tlvs : WellFormed area

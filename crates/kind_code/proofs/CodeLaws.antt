@@ -1,7 +1,6 @@
 -- Each kind has its code, and each code its kind; so have states and their bytes.
-use Rattle.std.specs.Prelude.{◌≡◌, refl, ℕ, eqb}
+use Rattle.std.specs.Prelude.{◌≡◌, refl, ℕ, eqb, Option, Some, None}
 use Rattle.std.proofs.Common.{sym, ap, ◌∙◌, arith, eqb-true}
-use Rattle.std.proofs.Math.Option.{Option, some, none}
 use Rattle.exact.specs.Pick.{pick, pick_by}
 use Rattle.record.specs.declared.Transport.TheVariants.{Stream, Datagram}
 use Rattle.record.specs.declared.Kind.{Kind}
@@ -11,7 +10,7 @@ use Rattle.record.specs.declared.Checksum.TheVariants.{Absent, Matched}
 use Rattle.kind_code.specs.Codes.{code_of, kind_of}
 use Rattle.kind_code.specs.States.{state_byte, state_of}
 
-pub code_kind : (k : Kind) → kind_of (code_of k) ≡ some k
+pub code_kind : (k : Kind) → kind_of (code_of k) ≡ Some k
 code_kind Local = refl
 code_kind Unspecified = refl
 code_kind (Ip4 Stream) = refl
@@ -24,16 +23,16 @@ code_kind (Unix Datagram) = refl
 -- what a table has at a number is of that number, row by row
 module _ {T : Type 0} (number_of : T → ℕ) (c : ℕ) where
   abbrev Coded : Option T → Type 0
-  Coded o = (x : T) → o ≡ some x → number_of x ≡ c
+  Coded o = (x : T) → o ≡ Some x → number_of x ≡ c
 
-  row : (j : T) {rest : Option T} → Coded rest → Coded (pick (eqb c (number_of j)) (some j) rest)
+  row : (j : T) {rest : Option T} → Coded rest → Coded (pick (eqb c (number_of j)) (Some j) rest)
   row j rest =
       pick_by Coded (eqb c (number_of j)) (λ t x same. let here : x ≡ j = cc in ap number_of here ∙ sym (eqb-true c (number_of j) t)) (λ t. rest)
 
-  no_row : Coded none
+  no_row : Coded None
   no_row x e = let z : ◌≡◌ {A = ℕ} 0 1 = cc in absurd (omega arith)
 
-pub kind_code : (c : ℕ) (k : Kind) → kind_of c ≡ some k → code_of k ≡ c
+pub kind_code : (c : ℕ) (k : Kind) → kind_of c ≡ Some k → code_of k ≡ c
 kind_code c =
     row code_of c Local
     (row code_of c Unspecified
@@ -45,9 +44,9 @@ kind_code c =
     (row code_of c (Unix Datagram) (no_row code_of c))))))))
 
 -- ── states ──
-pub byte_state : (c : Checksum) → state_of (state_byte c) ≡ some c
+pub byte_state : (c : Checksum) → state_of (state_byte c) ≡ Some c
 byte_state Absent = refl
 byte_state Matched = refl
 
-pub state_byte_lem : (b : ℕ) (c : Checksum) → state_of b ≡ some c → state_byte c ≡ b
+pub state_byte_lem : (b : ℕ) (c : Checksum) → state_of b ≡ Some c → state_byte c ≡ b
 state_byte_lem b = row state_byte b Absent (row state_byte b Matched (no_row state_byte b))

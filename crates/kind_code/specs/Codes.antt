@@ -1,6 +1,5 @@
 -- The kind codes of the stored form and of C connections (document 01, "Stored form, version 1").
-use Rattle.std.proofs.Math.Option.{Option, some, none}
-use Rattle.std.specs.Prelude.{ℕ, eqb}
+use Rattle.std.specs.Prelude.{ℕ, eqb, Option, Some, None}
 use Rattle.exact.specs.Pick.{pick}
 use Rattle.record.specs.declared.Transport.TheVariants.{Stream, Datagram}
 use Rattle.record.specs.declared.Kind.{Kind}
@@ -20,11 +19,11 @@ code_of (Unix Datagram) = 0x32
 -- the kind that a code is of: these eight are codes, whatever else byte 13 may be
 abbrev pub kind_of : ℕ → Option Kind
 kind_of c =
-    pick (eqb c 0x00) (some Local)
-    (pick (eqb c 0x01) (some Unspecified)
-    (pick (eqb c 0x11) (some (Ip4 Stream))
-    (pick (eqb c 0x12) (some (Ip4 Datagram))
-    (pick (eqb c 0x21) (some (Ip6 Stream))
-    (pick (eqb c 0x22) (some (Ip6 Datagram))
-    (pick (eqb c 0x31) (some (Unix Stream))
-    (pick (eqb c 0x32) (some (Unix Datagram)) none)))))))
+    pick (eqb c 0x00) (Some Local)
+    (pick (eqb c 0x01) (Some Unspecified)
+    (pick (eqb c 0x11) (Some (Ip4 Stream))
+    (pick (eqb c 0x12) (Some (Ip4 Datagram))
+    (pick (eqb c 0x21) (Some (Ip6 Stream))
+    (pick (eqb c 0x22) (Some (Ip6 Datagram))
+    (pick (eqb c 0x31) (Some (Unix Stream))
+    (pick (eqb c 0x32) (Some (Unix Datagram)) None)))))))

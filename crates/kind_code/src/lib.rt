@@ -2,11 +2,10 @@
 #![tactic(auto)]
 
 ghost use Rattle.std.specs.Prelude.{◌≡◌};
-ghost use Rattle.record.specs.KnownFamily.{told_family};
 ghost use Rattle.kind_code.specs.Codes.{code_of, kind_of};
-ghost use Rattle.kind_code.specs.States.{state_byte, state_of, told_state};
+ghost use Rattle.kind_code.specs.States.{state_byte, state_of};
 
-use record::{Checksum, Family, Kind, Transport};
+use record::{Checksum, Kind, Transport};
 
 // The code of a kind.
 pub fn code_of(kind: Kind) -> u8
@@ -31,27 +30,20 @@ pub fn code_of(kind: Kind) -> u8
 }
 
 // The kind of a code.
-pub fn kind_of(code: u8) -> Family
-    ensures { told_family result ≡ kind_of code }
+pub fn kind_of(code: u8) -> Option<Kind>
+    ensures { result ≡ kind_of code }
 {
     match code {
-        0x00 => Family::Known(Kind::Local),
-        0x01 => Family::Known(Kind::Unspecified),
-        0x11 => Family::Known(Kind::Ip4(Transport::Stream)),
-        0x12 => Family::Known(Kind::Ip4(Transport::Datagram)),
-        0x21 => Family::Known(Kind::Ip6(Transport::Stream)),
-        0x22 => Family::Known(Kind::Ip6(Transport::Datagram)),
-        0x31 => Family::Known(Kind::Unix(Transport::Stream)),
-        0x32 => Family::Known(Kind::Unix(Transport::Datagram)),
-        _ => Family::Unknown,
+        0x00 => Some(Kind::Local),
+        0x01 => Some(Kind::Unspecified),
+        0x11 => Some(Kind::Ip4(Transport::Stream)),
+        0x12 => Some(Kind::Ip4(Transport::Datagram)),
+        0x21 => Some(Kind::Ip6(Transport::Stream)),
+        0x22 => Some(Kind::Ip6(Transport::Datagram)),
+        0x31 => Some(Kind::Unix(Transport::Stream)),
+        0x32 => Some(Kind::Unix(Transport::Datagram)),
+        _ => None,
     }
-}
-
-// What a byte says of a checksum state.
-#[derive(Clone, Copy)]
-pub enum State {
-    Known(Checksum),
-    Unknown,
 }
 
 // The byte of a state.
@@ -65,12 +57,12 @@ pub fn state_byte(checksum: Checksum) -> u8
 }
 
 // The state of a byte.
-pub fn state_of(byte: u8) -> State
-    ensures { told_state result ≡ state_of byte }
+pub fn state_of(byte: u8) -> Option<Checksum>
+    ensures { result ≡ state_of byte }
 {
     match byte {
-        0 => State::Known(Checksum::Absent),
-        1 => State::Known(Checksum::Matched),
-        _ => State::Unknown,
+        0 => Some(Checksum::Absent),
+        1 => Some(Checksum::Matched),
+        _ => None,
     }
 }

@@ -2,7 +2,6 @@
 #![tactic(auto)]
 
 ghost use Rattle.std.specs.Prelude.{◌≡◌, ◌≤◌, length};
-ghost use Rattle.kind_code.specs.States.{told_state};
 ghost use Rattle.stored_form.specs.Heads.{head_length, state_in};
 ghost use Rattle.load.specs.After.{record_after};
 ghost use Rattle.stored_form.specs.Loading.{told_outcome, told_loaded, loaded_record, has_mark, has_version, load_block, load_answer};
@@ -10,8 +9,8 @@ ghost use Rattle.stored_form.specs.Meaning.{LoadMeans};
 
 use address_block::addresses_of;
 use clean::clean_state;
-use kind_code::{State, kind_of, state_of};
-use record::{Checksum, Family, Kind, Record, blank, block_length, with_checksum};
+use kind_code::{kind_of, state_of};
+use record::{Checksum, Kind, Record, blank, block_length, with_checksum};
 use stored_form::{Flaw, Loaded, Outcome, StoredVersion, head_length, version_byte};
 
 fn has_mark(s: &[u8]) -> bool
@@ -37,12 +36,12 @@ fn has_version(s: &[u8], version: StoredVersion) -> bool
 }
 
 // The state that the bytes say.
-fn state_in(s: &[u8], version: StoredVersion) -> State
+fn state_in(s: &[u8], version: StoredVersion) -> Option<Checksum>
     requires { head_length version ≤ length s.now }
-    ensures { told_state result ≡ state_in version s.now }
+    ensures { result ≡ state_in version s.now }
 {
     match version {
-        StoredVersion::One => State::Known(Checksum::Absent),
+        StoredVersion::One => Some(Checksum::Absent),
         StoredVersion::Two => state_of(s[6]),
     }
 }
@@ -84,10 +83,10 @@ fn load_into(s: &[u8], version: StoredVersion, into: &mut Record) -> Outcome
         return Outcome::Refused(Flaw::Version);
     }
     match kind_of(s[5]) {
-        Family::Unknown => Outcome::Refused(Flaw::Code),
-        Family::Known(kind) => match state_in(s, version) {
-            State::Unknown => Outcome::Refused(Flaw::State),
-            State::Known(checksum) => {
+        None => Outcome::Refused(Flaw::Code),
+        Some(kind) => match state_in(s, version) {
+            None => Outcome::Refused(Flaw::State),
+            Some(checksum) => {
                 if clean_state(kind, checksum) {
                     load_block(s, version, kind, checksum, into)
                 } else {

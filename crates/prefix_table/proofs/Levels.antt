@@ -1,11 +1,10 @@
 -- What holds of levels (document 02, K14): one prefix of each length matches, so one level decides; the order of the rows does not matter; what one more
 -- row changes; and where a level comes from.
-use Rattle.std.specs.Prelude.{◌≡◌, refl, Bool, true, false, ◌&&◌, ◌⊎◌, ℕ, suc, ◌≤◌, ◌<◌, leb, ltb, length}
+use Rattle.std.specs.Prelude.{◌≡◌, refl, Bool, true, false, ◌&&◌, ◌⊎◌, ℕ, suc, ◌≤◌, ◌<◌, leb, ltb, length, Option, Some, None as nothing}
 use Rattle.std.proofs.Common.{sym, ap, ◌∙◌, inl, inr, ⊎_elim, arith, leb-true, leb-false, ltb-true, ltb-false}
 use mathlib.Core.List.Memᴰ
 use mathlib.Core.List.Permᴰ
 use mathlib.Core.List.{List, [], ◌∷◌, Memᴰ, Permᴰ}
-use Rattle.std.proofs.Math.Option.{Option, some, none as nothing}
 use Rattle.exact.specs.Pick.{pick, never}
 use Rattle.address_bits.specs.Bits.{bit_at}
 use Rattle.prefix.specs.Prefix.{Prefix, SamePrefix, Matches}
@@ -53,25 +52,25 @@ module _ (rows : List Prefix) (good : GoodRows rows) (family : ℕ) (source : Li
 module _ (family : ℕ) (source : List ℕ) where
   -- what the longest of the best so far and the rows is
   record Found (best : Option Prefix) (rows : List Prefix) (found : Option Prefix) : Type 0 where
-    from : (found ≡ best) ⊎ ((p : Prefix) × (found ≡ some p) × Memᴰ p rows × Matches p family source)
+    from : (found ≡ best) ⊎ ((p : Prefix) × (found ≡ Some p) × Memᴰ p rows × Matches p family source)
     keeps : reach best ≤ reach found
-    furthest : (q : Prefix) → Memᴰ q rows → Matches q family source → reach (some q) ≤ reach found
+    furthest : (q : Prefix) → Memᴰ q rows → Matches q family source → reach (Some q) ≤ reach found
 
   -- a row on top
   record Kept (best : Option Prefix) (p : Prefix) (next : Option Prefix) : Type 0 where
-    from : (next ≡ best) ⊎ ((next ≡ some p) × Matches p family source)
+    from : (next ≡ best) ⊎ ((next ≡ Some p) × Matches p family source)
     keeps : reach best ≤ reach next
-    reaches : Matches p family source → reach (some p) ≤ reach next
+    reaches : Matches p family source → reach (Some p) ≤ reach next
 
   kept : (best : Option Prefix) (p : Prefix) → Kept best p (better family source best p)
-  kept best p = by (matches p family source) refl (ltb (reach best) (reach (some p))) refl
+  kept best p = by (matches p family source) refl (ltb (reach best) (reach (Some p))) refl
     where
-      by : (c : Bool) → matches p family source ≡ c → (d : Bool) → ltb (reach best) (reach (some p)) ≡ d → Kept best p (pick (c && d) (some p) best)
+      by : (c : Bool) → matches p family source ≡ c → (d : Bool) → ltb (reach best) (reach (Some p)) ≡ d → Kept best p (pick (c && d) (Some p) best)
       by true c true d =
-          let h = ltb-true (reach best) (reach (some p)) d in
+          let h = ltb-true (reach best) (reach (Some p)) d in
           record { from = inr (refl, (matches_tested p family source).0 c); keeps = omega arith; reaches = λ m. omega arith }
       by true c false d =
-          let h = ltb-false (reach best) (reach (some p)) d in
+          let h = ltb-false (reach best) (reach (Some p)) d in
           record { from = inl refl; keeps = omega arith; reaches = λ m. omega arith }
       by false c d e =
           record { from = inl refl; keeps = omega arith; reaches = λ m. never (sym c ∙ (matches_tested p family source).1 m) }
@@ -98,7 +97,7 @@ module _ (family : ℕ) (source : List ℕ) where
     where
       by : (r : Option Prefix) → Found nothing rows r → Decides rows family source (level_of r)
       by nothing f = none (λ p m a. let h = f.furthest p m a in omega arith)
-      by (some p) f =
+      by (Some p) f =
           ⊎_elim (λ e. let z : ◌≡◌ {A = ℕ} 0 1 = cc in absurd (omega arith))
           (λ w.
           let is : p ≡ w.0 = let e = w.1 in cc in

@@ -1,6 +1,5 @@
 -- The numbers, lengths and words of the kinds (document 01, "The binary block" and "The program"; document 02, K1).
-use Rattle.std.specs.Prelude.{List, ◌++◌, ℕ, ◌+◌, eqb}
-use Rattle.std.proofs.Math.Option.{Option, some, none}
+use Rattle.std.specs.Prelude.{List, ◌++◌, ℕ, ◌+◌, eqb, Option, Some, None}
 use Rattle.exact.specs.Pick.{pick}
 use Rattle.exact.specs.Ascii.{ascii}
 use Rattle.record.specs.declared.Transport.{Transport}
@@ -12,18 +11,18 @@ use Rattle.record.specs.declared.Kind.TheVariants.{Local, Unspecified, Ip4, Ip6,
 -- block not looked at and A = 0. Refusal 7 is for the rest only" (document 02, K1)
 abbrev pub family : ℕ → Option Kind
 family c =
-    pick (eqb c 0x00) (some Unspecified)
-    (pick (eqb c 0x01) (some Unspecified)
-    (pick (eqb c 0x02) (some Unspecified)
-    (pick (eqb c 0x10) (some Unspecified)
-    (pick (eqb c 0x11) (some (Ip4 Stream))
-    (pick (eqb c 0x12) (some (Ip4 Datagram))
-    (pick (eqb c 0x20) (some Unspecified)
-    (pick (eqb c 0x21) (some (Ip6 Stream))
-    (pick (eqb c 0x22) (some (Ip6 Datagram))
-    (pick (eqb c 0x30) (some Unspecified)
-    (pick (eqb c 0x31) (some (Unix Stream))
-    (pick (eqb c 0x32) (some (Unix Datagram)) none)))))))))))
+    pick (eqb c 0x00) (Some Unspecified)
+    (pick (eqb c 0x01) (Some Unspecified)
+    (pick (eqb c 0x02) (Some Unspecified)
+    (pick (eqb c 0x10) (Some Unspecified)
+    (pick (eqb c 0x11) (Some (Ip4 Stream))
+    (pick (eqb c 0x12) (Some (Ip4 Datagram))
+    (pick (eqb c 0x20) (Some Unspecified)
+    (pick (eqb c 0x21) (Some (Ip6 Stream))
+    (pick (eqb c 0x22) (Some (Ip6 Datagram))
+    (pick (eqb c 0x30) (Some Unspecified)
+    (pick (eqb c 0x31) (Some (Unix Stream))
+    (pick (eqb c 0x32) (Some (Unix Datagram)) None)))))))))))
 
 -- byte 13 of a kind, as it is written: unspecified and local as 00 ("The writer keeps writing 00", document 02, K1)
 abbrev pub byte_of : Kind → ℕ

@@ -1,5 +1,4 @@
 pub mod Kinds
-pub mod KnownFamily
 pub mod Tabulated
 pub mod Table
 pub mod Records

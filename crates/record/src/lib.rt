@@ -3,7 +3,6 @@
 #![tactic(auto)]
 
 ghost use Rattle.std.specs.Prelude.{◌≡◌};
-ghost use Rattle.record.specs.KnownFamily.{told_family};
 ghost use Rattle.record.specs.Records.{record_with, with_checksum, bare};
 ghost use Rattle.record.specs.Kinds.{family, byte_of, address_length, port_length, block_length};
 
@@ -87,26 +86,19 @@ pub fn blank(kind: Kind) -> Record
     record_with(kind, [0; 108], [0; 108], 0, 0, Checksum::Absent)
 }
 
-// What a byte says of a kind: byte 13 under PROXY, or a kind code.
-#[derive(Clone, Copy)]
-pub enum Family {
-    Known(Kind),
-    Unknown,
-}
-
 // The kind of byte 13 under PROXY.
-pub fn family_of(byte: u8) -> Family
-    ensures { told_family result ≡ family byte }
+pub fn family_of(byte: u8) -> Option<Kind>
+    ensures { result ≡ family byte }
 {
     match byte {
-        0x00 | 0x01 | 0x02 | 0x10 | 0x20 | 0x30 => Family::Known(Kind::Unspecified),
-        0x11 => Family::Known(Kind::Ip4(Transport::Stream)),
-        0x12 => Family::Known(Kind::Ip4(Transport::Datagram)),
-        0x21 => Family::Known(Kind::Ip6(Transport::Stream)),
-        0x22 => Family::Known(Kind::Ip6(Transport::Datagram)),
-        0x31 => Family::Known(Kind::Unix(Transport::Stream)),
-        0x32 => Family::Known(Kind::Unix(Transport::Datagram)),
-        _ => Family::Unknown,
+        0x00 | 0x01 | 0x02 | 0x10 | 0x20 | 0x30 => Some(Kind::Unspecified),
+        0x11 => Some(Kind::Ip4(Transport::Stream)),
+        0x12 => Some(Kind::Ip4(Transport::Datagram)),
+        0x21 => Some(Kind::Ip6(Transport::Stream)),
+        0x22 => Some(Kind::Ip6(Transport::Datagram)),
+        0x31 => Some(Kind::Unix(Transport::Stream)),
+        0x32 => Some(Kind::Unix(Transport::Datagram)),
+        _ => None,
     }
 }
 

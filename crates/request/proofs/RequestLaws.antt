@@ -1,7 +1,6 @@
 -- What a C caller was told of a record asks for that record: `given_record` is `connection_bytes` the other way.
-use Rattle.std.specs.Prelude.{◌≡◌, refl, Bool, List, [], ◌∷◌, ◌++◌, ℕ, ◌+◌, length, take, drop, get_or}
+use Rattle.std.specs.Prelude.{◌≡◌, refl, Bool, List, [], ◌∷◌, ◌++◌, ℕ, ◌+◌, length, take, drop, get_or, Option}
 use Rattle.std.proofs.Common.{sym, ap, ◌∙◌, append_assoc, arith, eq-eqb, length-append, take_at, drop_at, get_or-append-add}
-use Rattle.std.proofs.Math.Option.{Option}
 use Rattle.exact.specs.Network.{network, number_at}
 use Rattle.exact.specs.Pick.{pick}
 use Rattle.record.specs.declared.Kind.{Kind}

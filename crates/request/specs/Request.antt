@@ -1,6 +1,5 @@
 -- What the bytes of a connection ask of a writer (include/dawnhawse.h).
-use Rattle.std.specs.Prelude.{List, ℕ, eqb, length, take, drop, get_or}
-use Rattle.std.proofs.Math.Option.{Option, some, none}
+use Rattle.std.specs.Prelude.{List, ℕ, eqb, length, take, drop, get_or, Option, Some, None}
 use Rattle.exact.specs.Network.{number_at}
 use Rattle.exact.specs.Pick.{pick}
 use Rattle.record.specs.declared.Kind.{Kind}
@@ -22,12 +21,12 @@ abbrev pub refused_with : ℕ → Asked
 refused_with n = record { number = n; «record» = bare Unspecified }
 
 abbrev pub by_state : Kind → Option Checksum → List ℕ → Asked
-by_state k (some c) b = record { number = 0; «record» = given_record k c b }
-by_state k none b = refused_with 17
+by_state k (Some c) b = record { number = 0; «record» = given_record k c b }
+by_state k None b = refused_with 17
 
 abbrev pub by_kind : Option Kind → List ℕ → Asked
-by_kind (some k) b = by_state k (state_of (get_or b 221 0)) b
-by_kind none b = refused_with 17
+by_kind (Some k) b = by_state k (state_of (get_or b 221 0)) b
+by_kind None b = refused_with 17
 
 abbrev pub request : List ℕ → Asked
 request b = pick (eqb (length b) connection_size) (by_kind (kind_of (get_or b 0 0)) b) (refused_with 18)

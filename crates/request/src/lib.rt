@@ -7,8 +7,8 @@ ghost use Rattle.connection.specs.Connection.{connection_size};
 
 use connection::CONNECTION;
 use exact::number;
-use kind_code::{State, kind_of, state_of};
-use record::{Checksum, Family, Kind, Record, blank, record_with};
+use kind_code::{kind_of, state_of};
+use record::{Checksum, Kind, Record, blank, record_with};
 
 // The address at a place of a connection.
 fn address_at(bytes: &[u8], at: usize) -> [u8; 108]
@@ -56,17 +56,17 @@ pub fn request(bytes: &[u8]) -> Asked
         };
     }
     match kind_of(bytes[0]) {
-        Family::Known(kind) => match state_of(bytes[221]) {
-            State::Known(checksum) => Asked {
+        Some(kind) => match state_of(bytes[221]) {
+            Some(checksum) => Asked {
                 number: 0,
                 record: connection_of(kind, checksum, bytes),
             },
-            State::Unknown => Asked {
+            None => Asked {
                 number: 17,
                 record: blank(Kind::Unspecified),
             },
         },
-        Family::Unknown => Asked {
+        None => Asked {
             number: 17,
             record: blank(Kind::Unspecified),
         },

@@ -1,6 +1,5 @@
 -- What the C functions for TLV 0x20 answer and leave (document 02, K2).
-use Rattle.std.specs.Prelude.{◌≡◌, Bool, List, [], ◌∷◌, ℕ, ◌/◌, ◌%◌, ◌^◌, eqb, leb, length}
-use Rattle.std.proofs.Math.Option.{Option}
+use Rattle.std.specs.Prelude.{◌≡◌, Bool, List, [], ◌∷◌, ℕ, ◌/◌, ◌%◌, ◌^◌, eqb, leb, length, Option}
 use Rattle.exact.specs.Pick.{pick}
 use Rattle.lent.specs.Buffers.{told_in}
 use Rattle.numbers.specs.Numbers.{room_beside}

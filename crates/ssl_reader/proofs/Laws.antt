@@ -1,7 +1,6 @@
 -- Lemmas on what specs/Laws.antt defines.
-use Rattle.std.specs.Prelude.{◌≡◌, refl, Bool, true, false, List, ℕ, ◌+◌, ◌≤◌, ◌<◌, min, ltb, leb, length, take, drop}
+use Rattle.std.specs.Prelude.{◌≡◌, refl, Bool, true, false, List, ℕ, ◌+◌, ◌≤◌, ◌<◌, min, ltb, leb, length, take, drop, Option, Some, None}
 use Rattle.std.proofs.Common.{sym, ap, ◌∙◌, subst, arith, leb-true, le-leb, ltb-true, lt-ltb, length-drop, drop-drop}
-use Rattle.std.proofs.Math.Option.{Option, some, none}
 use Rattle.std.proofs.lemmas.Bool.{lt-leb}
 use Rattle.std.specs.Borrow.{Bor}
 use Rattle.exact.specs.Pick.{pick}
@@ -77,16 +76,16 @@ module _ (type : ℕ) (subs : List Tlv) where
       }
 
   lies_by : (value : List ℕ) → Area (drop 5 value) subs → 5 ≤ length value → (b : Bool) → ltb (index_of_first type subs) (length subs) ≡ b
-      → (p : Part) → pick b (some the_part) none ≡ some p → Lies value p
+      → (p : Part) → pick b (Some the_part) None ≡ Some p → Lies value p
   lies_by value a h true e p is =
       let same : the_part ≡ p = cc in rw same at (lies value a h (first_in type subs (ltb-true _ _ e)))
   lies_by value a h false e p is = let z : ◌≡◌ {A = ℕ} 0 1 = cc in absurd (omega arith)
 
-  pub part_lies : (value : List ℕ) → Area (drop 5 value) subs → 5 ≤ length value → (p : Part) → part_of type subs ≡ some p → Lies value p
+  pub part_lies : (value : List ℕ) → Area (drop 5 value) subs → 5 ≤ length value → (p : Part) → part_of type subs ≡ Some p → Lies value p
   part_lies value a h = lies_by value a h (ltb (index_of_first type subs) (length subs)) refl
 
 -- so of a lent value: the very part starts so far into its memory, and has the first sub-TLV's bytes
-pub very_part : (value part : Bor (List ℕ)) (type : ℕ) (subs : List Tlv) (p : Part) (l : Lies type subs value.now p) → PartOf value (some p) part
+pub very_part : (value part : Bor (List ℕ)) (type : ℕ) (subs : List Tlv) (p : Part) (l : Lies type subs value.now p) → PartOf value (Some p) part
     → (part.ref_ptr.0 ≡ value.ref_ptr.0) × (part.ref_ptr.1 ≡ value.ref_ptr.1 + p.start) × (part.now ≡ l.first.tlv.value)
 very_part value part type subs p l is =
     let at : min p.start (length value.now) ≡ p.start = omega (arith, l.inside) in

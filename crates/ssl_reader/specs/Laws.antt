@@ -1,6 +1,5 @@
 -- What holds of a reading: what it is by the sub-TLVs, where a piece lies, and that the first sub-TLV of a type is the one that a lookup finds.
-use Rattle.std.specs.Prelude.{◌≡◌, false, List, ℕ, ◌+◌, ◌≤◌, length, drop}
-use Rattle.std.proofs.Math.Option.{Option, some, none}
+use Rattle.std.specs.Prelude.{◌≡◌, false, List, ℕ, ◌+◌, ◌≤◌, length, drop, Option, Some, None}
 use Rattle.tlv.specs.Tlv.{Tlv, Area}
 use Rattle.lookup.specs.Lookup.{Finding, found, absent, gave_up, refused, Lookup}
 use Rattle.ssl_reader.specs.Ssl.{Part, part_of, parts_of, accepted, is_absent, lacks_version, client_of, verify_of, said_in}
@@ -17,7 +16,7 @@ pub record Reads (value : List ℕ) : Type 0 where
 -- ── "lookup's first" ──
 -- what a lookup in the sub-TLVs finds, as a part of the value
 abbrev pub found_part : Finding → Lookup → Option Part
-found_part found x = some (record { start = 5 + x.start; size = x.length })
-found_part absent x = none
-found_part gave_up x = none
-found_part (refused number) x = none
+found_part found x = Some (record { start = 5 + x.start; size = x.length })
+found_part absent x = None
+found_part gave_up x = None
+found_part (refused number) x = None

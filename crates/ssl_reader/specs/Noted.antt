@@ -1,13 +1,12 @@
 -- For proofs. The pieces where one more sub-TLV is noted: the first of its type counts.
-use Rattle.std.specs.Prelude.{List, [], ◌∷◌, ℕ, suc, ◌+◌, eqb, length}
-use Rattle.std.proofs.Math.Option.{Option, some, none}
+use Rattle.std.specs.Prelude.{List, [], ◌∷◌, ℕ, suc, ◌+◌, eqb, length, Option, Some, None}
 use Rattle.exact.specs.Pick.{pick}
 use Rattle.tlv.specs.Tlv.{Tlv, written}
 use Rattle.ssl_reader.specs.Ssl.{Part}
 
 -- parts as numbers, a start and a length each; none starts at 0
 abbrev pub found_part : (start size : ℕ) → Option Part
-found_part start size = pick (eqb start 0) none (some (record { start = start; size = size }))
+found_part start size = pick (eqb start 0) None (Some (record { start = start; size = size }))
 
 abbrev pub found_parts : List ℕ → List (Option Part)
 found_parts [] = []
@@ -16,8 +15,8 @@ found_parts (start ∷ size ∷ rest) = found_part start size ∷ found_parts re
 
 -- the part that was there first, or else this one
 abbrev pub or_part : Option Part → Part → Option Part
-or_part (some p) q = some p
-or_part none q = some q
+or_part (Some p) q = Some p
+or_part None q = Some q
 
 -- a sub-TLV of this type is noted among the parts of the types from this one on
 abbrev pub noted : (type : ℕ) → Part → (from : ℕ) → List (Option Part) → List (Option Part)

@@ -1,7 +1,6 @@
 -- The inside of TLV 0x20: document 02, K2. "one client byte, a 32-bit verify number in network order, then sub-TLVs that fill the rest by the rule for
 -- TLV areas"
-use Rattle.std.specs.Prelude.{Bool, true, false, ◌&&◌, List, [], ◌∷◌, ℕ, zero, suc, ◌+◌, ◌%◌, eqb, ltb, leb, length, get_or, take, drop, replicate}
-use Rattle.std.proofs.Math.Option.{Option, some, none}
+use Rattle.std.specs.Prelude.{Bool, true, false, ◌&&◌, List, [], ◌∷◌, ℕ, zero, suc, ◌+◌, ◌%◌, eqb, ltb, leb, length, get_or, take, drop, replicate, Option, Some, None}
 use Rattle.exact.specs.Pick.{pick}
 use Rattle.network32.specs.Network32.{number32_at}
 use Rattle.tlv.specs.Tlv.{Tlv}
@@ -26,7 +25,7 @@ pub record Part : Type 0 where
 
 -- the value of the sub-TLV with this index, "as a part of the lent bytes", in which the sub-TLVs start at 5; "or absent", where there are not so many
 abbrev pub part_at : (i : ℕ) → List Tlv → Option Part
-part_at i subs = pick (ltb i (length subs)) (some (record { start = 5 + start_of i subs; size = length_of i subs })) none
+part_at i subs = pick (ltb i (length subs)) (Some (record { start = 5 + start_of i subs; size = length_of i subs })) None
 
 -- "of each type .., the first sub-TLV's value": the first is `lookup`'s, whose index is the number of all of them where none is of the type
 abbrev pub part_of : (type : ℕ) → List Tlv → Option Part
@@ -43,8 +42,8 @@ parts_of = parts_from 5 0x21
 
 -- the bytes of a part, or absent; "empty is not absent"
 abbrev pub piece_in : (value : List ℕ) → Option Part → Option (List ℕ)
-piece_in value none = none
-piece_in value (some p) = some (take p.size (drop p.start value))
+piece_in value None = None
+piece_in value (Some p) = Some (take p.size (drop p.start value))
 
 abbrev pub pieces_in : (value : List ℕ) → List (Option Part) → List (Option (List ℕ))
 pieces_in value [] = []
@@ -63,15 +62,15 @@ pub record Said : Type 0 where
 
 -- a refusal says nothing else
 abbrev pub nothing : (number : ℕ) → Said
-nothing k = record { outcome = refused k; client = 0; verify = 0; parts = replicate 5 none }
+nothing k = record { outcome = refused k; client = 0; verify = 0; parts = replicate 5 None }
 
 -- 19: "a value under 5 bytes or ill-formed sub-TLVs"
 abbrev pub is_whole : (value : List ℕ) → Bool
 is_whole value = leb 5 (length value) && well_formed (drop 5 value)
 
 abbrev pub is_absent : {T : Type 0} → Option T → Bool
-is_absent none = true
-is_absent (some x) = false
+is_absent None = true
+is_absent (Some x) = false
 
 -- 20: "client bit 0x01 is set and no sub-TLV 0x21 is there"
 abbrev pub lacks_version : (client : ℕ) (absent : Bool) → Bool

@@ -1,6 +1,5 @@
 -- The reader's answer in document 02's terms.
-use Rattle.std.specs.Prelude.{◌≡◌, List, [], ◌∷◌, ℕ, ◌+◌, min, length, take, drop}
-use Rattle.std.proofs.Math.Option.{Option, some, none}
+use Rattle.std.specs.Prelude.{◌≡◌, List, [], ◌∷◌, ℕ, ◌+◌, min, length, take, drop, Option, Some, None}
 use Rattle.std.specs.Borrow.{Bor}
 use Rattle.ssl_reader.specs.Ssl as Spec
 use Rattle.ssl_reader.specs.Ssl.{Part, Said, accepted, refused}
@@ -11,8 +10,8 @@ use Rattle.ssl_reader.specs.declared.Outcome.TheVariants.{Accepted, IllFormed, N
 use Rattle.ssl_reader.specs.declared.Ssl.{Ssl}
 
 abbrev pub told_part : Piece → Option Part
-told_part Absent = none
-told_part (PartAt start size) = some (record { start = start; size = size })
+told_part Absent = None
+told_part (PartAt start size) = Some (record { start = start; size = size })
 
 -- "19 for a value under 5 bytes or ill-formed sub-TLVs, then 20"
 abbrev pub told_outcome : Outcome → Spec.Outcome
@@ -31,12 +30,12 @@ told_ssl r =
 
 -- where a part starts, and its length; an absent one is taken as the empty part at 0
 abbrev pub part_start : Option Part → ℕ
-part_start none = 0
-part_start (some p) = p.start
+part_start None = 0
+part_start (Some p) = p.start
 
 abbrev pub part_size : Option Part → ℕ
-part_size none = 0
-part_size (some p) = p.size
+part_size None = 0
+part_size (Some p) = p.size
 
 abbrev pub bytes_of : (value : List ℕ) → Option Part → List ℕ
 bytes_of value p = take (part_size p) (drop (part_start p) value)

@@ -1,8 +1,7 @@
 // The inside of TLV 0x20 (document 02, K2): what a TLS front end said of its client. No public function has a `requires`.
 #![tactic(auto)]
 
-ghost use Rattle.std.specs.Prelude.{◌≡◌, ◌<◌, length, replicate};
-ghost use Rattle.std.proofs.Math.Option.{none};
+ghost use Rattle.std.specs.Prelude.{◌≡◌, ◌<◌, length, replicate, None};
 ghost use Rattle.ssl_reader.specs.Ssl.{is_absent, lacks_version, said_in};
 ghost use Rattle.ssl_reader.specs.Told.{told_part, told_outcome, told_ssl, PartOf};
 ghost use Rattle.ssl_reader.specs.Noted.{found_part, found_parts, noted};
@@ -72,7 +71,7 @@ fn piece_at(start: usize, length: usize) -> Piece
 
 // What is told where nothing is read.
 fn unread(outcome: Outcome) -> Ssl
-    ensures { told_ssl result ≡ record { outcome = told_outcome outcome; client = 0; verify = 0; parts = replicate 5 none } }
+    ensures { told_ssl result ≡ record { outcome = told_outcome outcome; client = 0; verify = 0; parts = replicate 5 None } }
 {
     Ssl {
         outcome,

@@ -1,7 +1,6 @@
 -- Lemmas on what specs/Again.antt defines.
-use Rattle.std.specs.Prelude.{◌≡◌, refl, Bool, true, false, not, List, [], ◌∷◌, ℕ, zero, suc, ◌+◌, ◌^◌, ◌≤◌, ◌<◌, eqb, ltb, leb, length, take, drop}
+use Rattle.std.specs.Prelude.{◌≡◌, refl, Bool, true, false, not, List, [], ◌∷◌, ℕ, zero, suc, ◌+◌, ◌^◌, ◌≤◌, ◌<◌, eqb, ltb, leb, length, take, drop, Option, Some, None}
 use Rattle.std.proofs.Common.{sym, ap, ◌∙◌, subst, arith, eqb-true, ltb-true, ltb-false, leb-true, leb-false, lt-ltb, le-ltb, le-leb, ne_eqb, length-append, length-drop, length-take-le}
-use Rattle.std.proofs.Math.Option.{Option, some, none}
 use Rattle.std.proofs.lemmas.Bool.{eqb-false}
 use Rattle.std.specs.Borrow.{Bor}
 use Rattle.std.proofs.Math.Arith.{lt_of_le-ne}
@@ -127,8 +126,8 @@ module _ (value : List ℕ) (subs : List Tlv) (area : Area (drop 5 value) subs) 
 
 pieces_of_bytes : (value : List ℕ) → AllBytes value → (parts : List (Option Part)) → OfBytes (pieces_in value parts)
 pieces_of_bytes value b [] = tt
-pieces_of_bytes value b (none ∷ rest) = pieces_of_bytes value b rest
-pieces_of_bytes value b (some p ∷ rest) = (bytes_take p.size (drop p.start value) (bytes_drop p.start value b), pieces_of_bytes value b rest)
+pieces_of_bytes value b (None ∷ rest) = pieces_of_bytes value b rest
+pieces_of_bytes value b (Some p ∷ rest) = (bytes_take p.size (drop p.start value) (bytes_drop p.start value b), pieces_of_bytes value b rest)
 
 -- ── the theorem ──
 module _ (value : List ℕ) (bytes : AllBytes value) (short : length value < 65536) (r : Reads value) where
@@ -183,8 +182,8 @@ same_bytes client verify pieces r = λ k. ssl_value (r.client_same k) (r.verify_
 -- ── of calls ──
 -- a piece that `read_ssl` tells, with the part that `piece_of` lends and whether `is_absent` says so, is the piece of the value
 given_again : (value part : Bor (List ℕ)) (p : Option Part) → PartOf value p part → piece_if (not (is_absent p)) part.now ≡ piece_in value.now p
-given_again value part none is = refl
-given_again value part (some p) is = ap some is.2
+given_again value part None is = refl
+given_again value part (Some p) is = ap Some is.2
 
 -- so what these hand to `write_ssl` is written as the value again
 pub calls_again : (value a b c d e : Bor (List ℕ)) (r : Ssl) → told_ssl r ≡ said_in value.now → PartOf value (told_part r.version) a

@@ -1,7 +1,6 @@
 -- Lemmas on what specs/ReadBack.antt defines.
-use Rattle.std.specs.Prelude.{◌≡◌, refl, false, List, [], ◌∷◌, ◌++◌, ℕ, suc, ◌+◌, ◌^◌, ◌≤◌, ◌<◌, ltb, leb, length, get_or, take, drop}
+use Rattle.std.specs.Prelude.{◌≡◌, refl, false, List, [], ◌∷◌, ◌++◌, ℕ, suc, ◌+◌, ◌^◌, ◌≤◌, ◌<◌, ltb, leb, length, get_or, take, drop, Option, Some, None}
 use Rattle.std.proofs.Common.{sym, ap, ap₂, ◌∙◌, subst, append_assoc, arith, leb-true, ltb-true, lt-ltb, le-ltb, eq-eqb, ne_eqb, length-append, drop-drop}
-use Rattle.std.proofs.Math.Option.{Option, some, none}
 use Rattle.exact.specs.Pick.{pick_by}
 use Rattle.network32.specs.Network32.{network32}
 use Rattle.network32.proofs.Network32.{number_network}
@@ -38,8 +37,8 @@ none_before type (t ∷ front) b =
 
 none_behind : (type from : ℕ) → type < from → (pieces : List Piece) → index_of_first type (subs_for from pieces) ≡ length (subs_for from pieces)
 none_behind type from h [] = refl
-none_behind type from h (none ∷ rest) = none_behind type (suc from) (omega arith) rest
-none_behind type from h (some bytes ∷ rest) =
+none_behind type from h (None ∷ rest) = none_behind type (suc from) (omega arith) rest
+none_behind type from h (Some bytes ∷ rest) =
     rw (ne_eqb from type (λ e. omega arith)) (ap suc (none_behind type (suc from) (omega arith) rest))
 
 module _ (type : ℕ) (front : List Tlv) (none-in-front : index_of_first type front ≡ length front) where
@@ -48,13 +47,13 @@ module _ (type : ℕ) (front : List Tlv) (none-in-front : index_of_first type fr
       ap (λ (k : ℕ). part_at k (front ++ rest))
       (first_joined type front rest ∙ rw (none-in-front, le-ltb (length front) (length front) (omega arith), e))
 
-  part_none : (rest : List Tlv) → index_of_first type rest ≡ length rest → part_of type (front ++ rest) ≡ none
+  part_none : (rest : List Tlv) → index_of_first type rest ≡ length rest → part_of type (front ++ rest) ≡ None
   part_none rest e =
       let n = length-append front rest in
       at_index rest (length rest) e ∙ rw (le-ltb (length front + length rest) (length (front ++ rest)) (omega arith))
 
   part_some : (t : Tlv) (rest : List Tlv) → t.type ≡ type
-      → part_of type (front ++ t ∷ rest) ≡ some (record { start = 5 + (length (written front) + 3); size = length t.value })
+      → part_of type (front ++ t ∷ rest) ≡ Some (record { start = 5 + (length (written front) + 3); size = length t.value })
   part_some t rest e =
       let n = length-append front (t ∷ rest) in
       at_index (t ∷ rest) 0 (rw (eq-eqb t.type type e))
@@ -65,11 +64,11 @@ module _ (value : List ℕ) where
   pieces_back : (front : List Tlv) (type : ℕ) (pieces : List Piece) → Before type front → Area (drop 5 value) (front ++ subs_for type pieces)
       → pieces_in value (parts_from (length pieces) type (front ++ subs_for type pieces)) ≡ pieces
   pieces_back front type [] b a = refl
-  pieces_back front type (none ∷ rest) b a =
+  pieces_back front type (None ∷ rest) b a =
       ap₂ {B = List Piece} (λ (p : Piece) (l : List Piece). p ∷ l)
       (ap (piece_in value) (part_none type front (none_before type front b) (subs_for (suc type) rest) (none_behind type (suc type) (omega arith) rest)))
       (pieces_back front (suc type) rest (before_next type front b) a)
-  pieces_back front type (some bytes ∷ rest) b a =
+  pieces_back front type (Some bytes ∷ rest) b a =
       let t : Tlv = record { type = type; value = bytes } in
       let behind = subs_for (suc type) rest in
       let parts : (front ++ t ∷ []) ++ behind ≡ front ++ t ∷ behind = append_assoc front (t ∷ []) behind in
@@ -79,29 +78,29 @@ module _ (value : List ℕ) where
       (subst (Area (drop 5 value)) (sym parts) a)
       in
       ap₂ {B = List Piece} (λ (p : Piece) (l : List Piece). p ∷ l)
-      (ap (piece_in value) (part_some type front (none_before type front b) t behind refl) ∙ ap some there)
+      (ap (piece_in value) (part_some type front (none_before type front b) t behind refl) ∙ ap Some there)
       (subst (λ (l : List Tlv). pieces_in value (parts_from (length rest) (suc type) l) ≡ rest) parts others)
 
 -- ── a written value is one of sub-TLVs ──
 proper : (type : ℕ) (pieces : List Piece) → type + length pieces ≤ 256 → OfBytes pieces → length (written (subs_for type pieces)) < 65536
     → Proper (subs_for type pieces)
 proper type [] h b n = tt
-proper type (none ∷ rest) h b n = proper (suc type) rest (omega arith) b n
-proper type (some bytes ∷ rest) h b n =
+proper type (None ∷ rest) h b n = proper (suc type) rest (omega arith) b n
+proper type (Some bytes ∷ rest) h b n =
     let m = length-append bytes (written (subs_for (suc type) rest)) in
     (omega arith, b.0, omega arith, proper (suc type) rest (omega arith) b.1 (omega arith))
 
 pub absent_same : (value : List ℕ) (p : Option Part) → is_absent p ≡ is_absent (piece_in value p)
-absent_same value none = refl
-absent_same value (some p) = refl
+absent_same value None = refl
+absent_same value (Some p) = refl
 
 -- a value is longer than each of its pieces
 pub piece_within : (client verify type : ℕ) (front : List Piece) (bytes : List ℕ) (rest : List Piece)
-    → length bytes < length (client ∷ network32 verify ++ written (subs_for type (front ++ some bytes ∷ rest)))
+    → length bytes < length (client ∷ network32 verify ++ written (subs_for type (front ++ Some bytes ∷ rest)))
 piece_within client verify type [] bytes rest = let n = length-append bytes (written (subs_for (suc type) rest)) in omega arith
-piece_within client verify type (none ∷ front) bytes rest = piece_within client verify (suc type) front bytes rest
-piece_within client verify type (some other ∷ front) bytes rest =
-    let n = length-append other (written (subs_for (suc type) (front ++ some bytes ∷ rest))) in
+piece_within client verify type (None ∷ front) bytes rest = piece_within client verify (suc type) front bytes rest
+piece_within client verify type (Some other ∷ front) bytes rest =
+    let n = length-append other (written (subs_for (suc type) (front ++ Some bytes ∷ rest))) in
     let h = piece_within client verify (suc type) front bytes rest in omega arith
 
 -- ── the theorem ──
@@ -118,7 +117,7 @@ module _ (client verify : ℕ) (a b c d e : Piece) where
       let subs = subs_for 0x21 pieces in
       let area : Area (drop 5 value) subs = (refl, proper 0x21 pieces (omega arith) bytes (omega arith)) in
       let back = pieces_back value [] 0x21 pieces tt area in
-      let first : is_absent (part_of 0x21 subs) ≡ is_absent a = absent_same value (part_of 0x21 subs) ∙ ap (λ (l : List Piece). is_absent (get_or l 0 none)) back in
+      let first : is_absent (part_of 0x21 subs) ≡ is_absent a = absent_same value (part_of 0x21 subs) ∙ ap (λ (l : List Piece). is_absent (get_or l 0 None)) back in
       let said : said_in value ≡ record { outcome = accepted; client = client; verify = verify_of value; parts = parts_of subs } =
       said_listed value (omega arith) subs area ∙ rw (first, version)
       in

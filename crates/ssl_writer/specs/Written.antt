@@ -1,6 +1,5 @@
 -- What the writer of TLV 0x20's value writes and answers: document 02, K2.
-use Rattle.std.specs.Prelude.{Bool, List, [], ◌∷◌, ◌++◌, ℕ, suc, length, get_or}
-use Rattle.std.proofs.Math.Option.{Option, some, none}
+use Rattle.std.specs.Prelude.{Bool, List, [], ◌∷◌, ◌++◌, ℕ, suc, length, get_or, Option, Some, None}
 use Rattle.exact.specs.Pick.{pick}
 use Rattle.network32.specs.Network32.{network32}
 use Rattle.tlv.specs.Tlv.{Tlv, written}
@@ -13,7 +12,7 @@ abbrev pub Piece : Type 0
 Piece = Option (List ℕ)
 
 abbrev pub piece_if : Bool → List ℕ → Piece
-piece_if there bytes = pick there (some bytes) none
+piece_if there bytes = pick there (Some bytes) None
 
 -- the five pieces, "in order of type": version, common name, cipher, signature algorithm, key algorithm
 abbrev pub pieces_of : Present → (version common_name cipher signature key : List ℕ) → List Piece
@@ -23,8 +22,8 @@ pieces_of p version common_name cipher signature key =
 -- the sub-TLVs of pieces, of which the first has this type and each other the next one
 abbrev pub subs_for : (type : ℕ) → List Piece → List Tlv
 subs_for type [] = []
-subs_for type (none ∷ rest) = subs_for (suc type) rest
-subs_for type (some bytes ∷ rest) = record { type = type; value = bytes } ∷ subs_for (suc type) rest
+subs_for type (None ∷ rest) = subs_for (suc type) rest
+subs_for type (Some bytes ∷ rest) = record { type = type; value = bytes } ∷ subs_for (suc type) rest
 
 -- "A writer makes the value from such pieces": "one client byte, a 32-bit verify number in network order, then sub-TLVs"
 abbrev pub ssl_value : (client verify : ℕ) → List Piece → List ℕ
@@ -33,5 +32,5 @@ ssl_value client verify pieces = client ∷ network32 verify ++ written (subs_fo
 -- "It checks 20, then 13 for a piece or the value over 65,535 bytes, then 14": a value is longer than each of its pieces (`piece_within` in `ReadBack.antt`), so that its length decides
 abbrev pub ssl_answer : (client verify : ℕ) (pieces : List Piece) (room : ℕ) → WriteAnswer
 ssl_answer client verify pieces room =
-    pick (lacks_version client (is_absent (get_or pieces 0 none))) (refuses 20)
+    pick (lacks_version client (is_absent (get_or pieces 0 None))) (refuses 20)
     (sized_answer (length (ssl_value client verify pieces)) (length (ssl_value client verify pieces)) room)

@@ -1,7 +1,6 @@
 -- What a head says, and which bytes begin with one: the only laws with a case for each version.
-use Rattle.std.specs.Prelude.{◌≡◌, refl, true, List, [], ◌∷◌, ◌++◌, ◌↔◌, ℕ, ◌≤◌, length, take, drop, get_or}
+use Rattle.std.specs.Prelude.{◌≡◌, refl, true, List, [], ◌∷◌, ◌++◌, ◌↔◌, ℕ, ◌≤◌, length, take, drop, get_or, Some}
 use Rattle.std.proofs.Common.{sym, ap, ◌∙◌, arith, eqb-true, eq-eqb, drop-cons}
-use Rattle.std.proofs.Math.Option.{some}
 use Rattle.exact.proofs.Pick.{both}
 use Rattle.record.specs.declared.Kind.{Kind}
 use Rattle.record.specs.declared.Checksum.{Checksum}
@@ -43,8 +42,8 @@ module _ (k : Kind) (c : Checksum) (b : List ℕ) where
   pub head_version : (v : StoredVersion) → has_version v (head v k c ++ b) ≡ true
   head_version v = eq-eqb (version_byte v) (version_byte v) refl
 
-  pub head_state : (v : StoredVersion) → Keeps v c → state_in v (head v k c ++ b) ≡ some c
-  head_state One kept = ap some (sym kept)
+  pub head_state : (v : StoredVersion) → Keeps v c → state_in v (head v k c ++ b) ≡ Some c
+  head_state One kept = ap Some (sym kept)
   head_state Two kept = byte_state c
 
   pub behind_head : (v : StoredVersion) → drop (head_length v) (head v k c ++ b) ≡ b
@@ -62,17 +61,17 @@ six (a ∷ b ∷ c ∷ d ∷ []) h = absurd (omega arith)
 six (a ∷ b ∷ c ∷ d ∷ e ∷ []) h = absurd (omega arith)
 six (a ∷ b ∷ c ∷ d ∷ e ∷ f ∷ s) h = refl
 
-pub said_kept : (v : StoredVersion) (s : List ℕ) (c : Checksum) → state_in v s ≡ some c → Keeps v c
+pub said_kept : (v : StoredVersion) (s : List ℕ) (c : Checksum) → state_in v s ≡ Some c → Keeps v c
 said_kept One s c e = let same : c ≡ Absent = cc in same
 said_kept Two s c e = tt
 
-state_again : (v : StoredVersion) (s : List ℕ) (c : Checksum) → head_length v ≤ length s → state_in v s ≡ some c
+state_again : (v : StoredVersion) (s : List ℕ) (c : Checksum) → head_length v ≤ length s → state_in v s ≡ Some c
     → drop 6 s ≡ state_bytes v c ++ drop (head_length v) s
 state_again One s c long e = refl
 state_again Two s c long e = drop-cons s 6 0 (omega arith) ∙ ap (λ (b : ℕ). b ∷ drop 7 s) (sym (state_byte_lem (get_or s 6 0) c e))
 
 pub head_again : (v : StoredVersion) (s : List ℕ) (k : Kind) (c : Checksum) → head_length v ≤ length s → has_mark s ≡ true → has_version v s ≡ true
-    → kind_of (get_or s 5 0) ≡ some k → state_in v s ≡ some c → s ≡ head v k c ++ drop (head_length v) s
+    → kind_of (get_or s 5 0) ≡ Some k → state_in v s ≡ Some c → s ≡ head v k c ++ drop (head_length v) s
 head_again v s k c long marked versioned code state =
     let m₁ = both _ _ marked in
     let m₂ = both _ _ m₁.0 in

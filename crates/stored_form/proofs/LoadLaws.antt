@@ -1,7 +1,6 @@
 -- The reader's answers, by the tests that it makes.
-use Rattle.std.specs.Prelude.{◌≡◌, Bool, true, false, List, ℕ, ◌+◌, ◌≤◌, ◌<◌, length, drop, get_or}
+use Rattle.std.specs.Prelude.{◌≡◌, Bool, true, false, List, ℕ, ◌+◌, ◌≤◌, ◌<◌, length, drop, get_or, Some, None}
 use Rattle.std.proofs.Common.{ap, ◌∙◌, lt-ltb, le-ltb, eq-eqb, ne_eqb}
-use Rattle.std.proofs.Math.Option.{some, none}
 use Rattle.exact.specs.Pick.{pick}
 use Rattle.record.specs.declared.Kind.{Kind}
 use Rattle.record.specs.declared.Checksum.{Checksum}
@@ -30,17 +29,17 @@ module _ (v : StoredVersion) (s : List ℕ) where
         behind : load_answer v s ≡ load_kind v (kind_of (get_or s 5 0)) s
         behind = rw (le-ltb (length s) (head_length v) long, marked, versioned)
 
-        pub answer_code : kind_of (get_or s 5 0) ≡ none → load_answer v s ≡ no_record 17
+        pub answer_code : kind_of (get_or s 5 0) ≡ None → load_answer v s ≡ no_record 17
         answer_code e = behind ∙ ap (λ o. load_kind v o s) e
 
-        module _ (k : Kind) (code : kind_of (get_or s 5 0) ≡ some k) where
+        module _ (k : Kind) (code : kind_of (get_or s 5 0) ≡ Some k) where
           by_state : load_answer v s ≡ load_state v k (state_in v s) s
           by_state = behind ∙ ap (λ o. load_kind v o s) code
 
-          pub answer_no_state : state_in v s ≡ none → load_answer v s ≡ no_record 24
+          pub answer_no_state : state_in v s ≡ None → load_answer v s ≡ no_record 24
           answer_no_state e = by_state ∙ ap (λ o. load_state v k o s) e
 
-          pub answer_state : (c : Checksum) → state_in v s ≡ some c → (b : Bool) → clean_state k c ≡ b → load_answer v s ≡ pick b (load_block v k c s) (no_record 24)
+          pub answer_state : (c : Checksum) → state_in v s ≡ Some c → (b : Bool) → clean_state k c ≡ b → load_answer v s ≡ pick b (load_block v k c s) (no_record 24)
           answer_state c said b fits =
               by_state ∙ ap (λ o. load_state v k o s) said ∙ ap (λ (x : Bool). pick x (load_block v k c s) (no_record 24)) fits
 

@@ -1,7 +1,6 @@
 -- What document 02, K7 says of moving stored bytes: theorems about all bytes, by one law over the two versions.
-use Rattle.std.specs.Prelude.{◌≡◌, refl, Bool, List, ◌∷◌, ◌++◌, ℕ, suc, ◌+◌, ◌≤◌, eqb, ltb, length, get_or}
+use Rattle.std.specs.Prelude.{◌≡◌, refl, Bool, List, ◌∷◌, ◌++◌, ℕ, suc, ◌+◌, ◌≤◌, eqb, ltb, length, get_or, Option, Some, None}
 use Rattle.std.proofs.Common.{sym, ap, ap₂, ◌∙◌, subst, arith, le-leb, ltb-true, ltb-false}
-use Rattle.std.proofs.Math.Option.{Option, some, none}
 use Rattle.exact.specs.Claim.{AllBytes}
 use Rattle.exact.specs.Pick.{pick, pick_by}
 use Rattle.record.specs.declared.Kind.{Kind}
@@ -171,12 +170,12 @@ module _ (s : List ℕ) where
       pick_by Not24 (eqb (length s) (head_length One + block_length k)) (λ t e. not_loaded 24 _ (sym e)) (λ t. other_number 18 (λ e. omega arith))
 
   by_kind : (o : Option Kind) → Not24 (load_kind One o s)
-  by_kind none = other_number 17 (λ e. omega arith)
-  by_kind (some Local) = by_length Local
-  by_kind (some Unspecified) = by_length Unspecified
-  by_kind (some (Ip4 t)) = by_length (Ip4 t)
-  by_kind (some (Ip6 t)) = by_length (Ip6 t)
-  by_kind (some (Unix t)) = by_length (Unix t)
+  by_kind None = other_number 17 (λ e. omega arith)
+  by_kind (Some Local) = by_length Local
+  by_kind (Some Unspecified) = by_length Unspecified
+  by_kind (Some (Ip4 t)) = by_length (Ip4 t)
+  by_kind (Some (Ip6 t)) = by_length (Ip6 t)
+  by_kind (Some (Unix t)) = by_length (Unix t)
 
   -- so its reader never answers 24, whatever the bytes
   pub never_24 : load_answer One s ≡ no_record 24 → ⊥

@@ -1,11 +1,10 @@
 -- "One record, one byte string, and reading it returns the record" (document 01, "Stored form, version 1"), in each version: that the answers mean what
 -- `Meaning` says.
-use Rattle.std.specs.Prelude.{◌≡◌, ℕ, ◌+◌, ◌≤◌, eqb, ltb, leb, get_or}
+use Rattle.std.specs.Prelude.{◌≡◌, ℕ, ◌+◌, ◌≤◌, eqb, ltb, leb, get_or, Option, Some, None}
 use Rattle.std.proofs.Math.Path.{refl, sym, ap}
 use Rattle.std.proofs.Common.{ap₂, ◌∙◌, subst, eqb-true, ltb-false, leb-true, leb-false, length-append}
 use Rattle.std.proofs.Math.Bool.{true}
 use mathlib.Core.List.{List, ◌++◌}
-use Rattle.std.proofs.Math.Option.{Option, some, none}
 use native.Mathlib.Omega.{arith}
 use Rattle.std.proofs.Math.ListN.{length, drop, length-drop}
 use Rattle.exact.specs.Claim.{AllBytes}
@@ -83,7 +82,7 @@ module _ (v : StoredVersion) (s : List ℕ) (bytes : AllBytes s) where
   Again x = (r : Record) → x ≡ loads r → Form v s r
 
   module _ (long : head_length v ≤ length s) (marked : has_mark s ≡ true) (versioned : has_version v s ≡ true) where
-    block_form : (k : Kind) (c : Checksum) → kind_of (get_or s 5 0) ≡ some k → state_in v s ≡ some c → clean_state k c ≡ true
+    block_form : (k : Kind) (c : Checksum) → kind_of (get_or s 5 0) ≡ Some k → state_in v s ≡ Some c → clean_state k c ≡ true
         → length s ≡ head_length v + block_length k → Form v s (with_checksum c (block_record k (drop (head_length v) s)))
     unfolding stored
     block_form k c code said fits size =
@@ -100,9 +99,9 @@ module _ (v : StoredVersion) (s : List ℕ) (bytes : AllBytes s) where
           sized = sized_with c made (block_sized k b n w);
         }
 
-    again_state : (k : Kind) → kind_of (get_or s 5 0) ≡ some k → (o : Option Checksum) → state_in v s ≡ o → Again (load_state v k o s)
-    again_state k code none said = λ r e. not_loaded _ r e
-    again_state k code (some c) said =
+    again_state : (k : Kind) → kind_of (get_or s 5 0) ≡ Some k → (o : Option Checksum) → state_in v s ≡ o → Again (load_state v k o s)
+    again_state k code None said = λ r e. not_loaded _ r e
+    again_state k code (Some c) said =
         pick_by Again (clean_state k c)
         (λ fits.
         pick_by Again (eqb (length s) (head_length v + block_length k))
@@ -111,8 +110,8 @@ module _ (v : StoredVersion) (s : List ℕ) (bytes : AllBytes s) where
         (λ t r e. not_loaded _ r e)
 
     again_kind : (o : Option Kind) → kind_of (get_or s 5 0) ≡ o → Again (load_kind v o s)
-    again_kind none code = λ r e. not_loaded _ r e
-    again_kind (some k) code = again_state k code (state_in v s) refl
+    again_kind None code = λ r e. not_loaded _ r e
+    again_kind (Some k) code = again_state k code (state_in v s) refl
 
   -- whatever is accepted is the stored form of the record that is given
   pub load_again : (r : Record) → load_answer v s ≡ loads r → Form v s r

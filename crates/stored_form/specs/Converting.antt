@@ -1,6 +1,5 @@
 -- What moving stored bytes from one version to the other answers and writes (document 02, K7: "moving forward", "moving back"); in code it is a conversion.
-use Rattle.std.specs.Prelude.{◌≡◌, List, ◌∷◌, ◌++◌, ℕ, ◌≤◌, length, take, drop, get_or}
-use Rattle.std.proofs.Math.Option.{Option, some, none}
+use Rattle.std.specs.Prelude.{◌≡◌, List, ◌∷◌, ◌++◌, ℕ, ◌≤◌, length, take, drop, get_or, Option, Some, None}
 use Rattle.record.specs.declared.Checksum.{Checksum}
 use Rattle.record.specs.declared.Checksum.TheVariants.{Absent}
 use Rattle.record.specs.declared.Record.{Record}
@@ -14,8 +13,8 @@ use Rattle.stored_form.specs.Loading.{LoadAnswer, loads, no_record, flaw_number,
 
 -- a byte of no state is in no stored form
 abbrev pub state_said : Option Checksum → Checksum
-state_said (some c) = c
-state_said none = Absent
+state_said (Some c) = c
+state_said None = Absent
 
 -- the bytes in a version: the mark, its version bytes, the kind code, the state where the version has one, and the address block as it stands
 unfoldable pub converted : (from to : StoredVersion) → List ℕ → List ℕ

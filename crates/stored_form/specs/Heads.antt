@@ -1,7 +1,6 @@
 -- The two versions of the stored form, each by its head: its version bytes, whether a state is there, its length (document 01, "Stored form, version 1";
 -- document 02, K7: "the same mark, version 00 02, the kind code, one byte of state").
-use Rattle.std.specs.Prelude.{◌≡◌, Bool, true, List, [], ◌∷◌, ◌++◌, ℕ, get_or}
-use Rattle.std.proofs.Math.Option.{Option, some}
+use Rattle.std.specs.Prelude.{◌≡◌, Bool, true, List, [], ◌∷◌, ◌++◌, ℕ, get_or, Option, Some}
 use Rattle.record.specs.declared.Kind.{Kind}
 use Rattle.record.specs.declared.Checksum.{Checksum}
 use Rattle.record.specs.declared.Checksum.TheVariants.{Absent}
@@ -39,7 +38,7 @@ head_length Two = 7
 
 -- the state that stored bytes say; those of version 1 have none, and that is absent
 abbrev pub state_in : StoredVersion → List ℕ → Option Checksum
-state_in One s = some Absent
+state_in One s = Some Absent
 state_in Two s = state_of (get_or s 6 0)
 
 -- which states a version can say, and the test of it

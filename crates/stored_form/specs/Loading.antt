@@ -1,6 +1,5 @@
 -- What the reader of stored bytes answers, in a version (document 01, "Stored form, version 1" and "Numbered answers"; document 02, K7).
-use Rattle.std.specs.Prelude.{Bool, ◌&&◌, List, ℕ, ◌+◌, eqb, ltb, length, drop, get_or}
-use Rattle.std.proofs.Math.Option.{Option, some, none}
+use Rattle.std.specs.Prelude.{Bool, ◌&&◌, List, ℕ, ◌+◌, eqb, ltb, length, drop, get_or, Option, Some, None}
 use Rattle.exact.specs.Pick.{pick}
 use Rattle.record.specs.declared.Kind.{Kind}
 use Rattle.record.specs.declared.Kind.TheVariants.{Unspecified}
@@ -59,13 +58,13 @@ load_block v k c s =
 
 -- "24 between 17 and the final length check"; "Matched beside local or unspecified reads as 24"
 abbrev pub load_state : StoredVersion → Kind → Option Checksum → List ℕ → LoadAnswer
-load_state v k none s = no_record 24
-load_state v k (some c) s = pick (clean_state k c) (load_block v k c s) (no_record 24)
+load_state v k None s = no_record 24
+load_state v k (Some c) s = pick (clean_state k c) (load_block v k c s) (no_record 24)
 
 -- "code 17"
 abbrev pub load_kind : StoredVersion → Option Kind → List ℕ → LoadAnswer
-load_kind v none s = no_record 17
-load_kind v (some k) s = load_state v k (state_in v s) s
+load_kind v None s = no_record 17
+load_kind v (Some k) s = load_state v k (state_in v s) s
 
 -- "The reader checks in this order: under 6 bytes 18, mark 15, version 16, code 17, total length 18"; K7: "Checks keep the outline's order …
 -- lengths grow by one, and under 7 bytes is 18"

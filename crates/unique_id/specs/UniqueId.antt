@@ -1,6 +1,5 @@
 -- The unique ID that a TLV area gives (document 02, K14): TLV 0x05, the specification's PP2_TYPE_UNIQUE_ID.
-use Rattle.std.specs.Prelude.{Bool, ◌&&◌, List, ℕ, eqb, leb}
-use Rattle.std.proofs.Math.Option.{Option, some, none}
+use Rattle.std.specs.Prelude.{Bool, ◌&&◌, List, ℕ, eqb, leb, Option, Some, None}
 use Rattle.exact.specs.Pick.{pick}
 use Rattle.tlv.specs.Tlv.{Tlv}
 use Rattle.tlv.specs.Test.{well_formed}
@@ -35,8 +34,8 @@ abbrev pub id_of : List ℕ → Value
 id_of area = first_value (tlvs_of area)
 
 abbrev pub id_in : List ℕ → Option Value
-id_in area = pick (identified area) (some (id_of area)) none
+id_in area = pick (identified area) (Some (id_of area)) None
 
 abbrev pub told_id : UniqueId → Option Value
-told_id (ValueAt start size) = some (record { start = start; size = size })
-told_id Missing = none
+told_id (ValueAt start size) = Some (record { start = start; size = size })
+told_id Missing = None

@@ -5,8 +5,8 @@ use Rattle.record.specs.Kinds.{family}
 use Rattle.fields.specs.BlockFields.{family_field}
 use Rattle.fields.proofs.BlockFields.{family_rest, from_family}
 use Rattle.answer.proofs.StageLaws.{as_end, as_refused, as_accepted}
-use Rattle.record.specs.declared.Family.{Family}
-use Rattle.record.specs.KnownFamily.{told_family}
+use Rattle.std.specs.Prelude.{Option}
+use Rattle.record.specs.declared.Kind.{Kind}
 use Rattle.block_body.proofs.Takes.{bytes_of, bytes_drop}
 use Rattle.block_body.proofs.Leaves.{byte_full}
 use Rattle.block.proofs.proxy.Goals.{After-family_of, After-shared_slice_known-1}
@@ -29,24 +29,24 @@ module _ (c : After-family_of) where
   here : 1 ≤ length rest
   here = let left = length-drop 13 (text start) in let h = c.if-s-le13.false in omega arith
 
-  found : (x : Family) → c.family_of.result ≡ x → family (get_or rest 0 0) ≡ told_family x
-  found x e = ap family (get_or-drop 13 (text start) 0 0) ∙ sym c.family_of.ensures ∙ ap told_family e
+  found : (x : Option Kind) → c.family_of.result ≡ x → family (get_or rest 0 0) ≡ x
+  found x e = ap family (get_or-drop 13 (text start) 0 0) ∙ sym c.family_of.ensures ∙ e
 
 pub returns-then-s-le13 : goal.returns-then-s-le13
 returns-then-s-le13 c = as_end from_family.verdict 3 refl c.if-s-le13.true (c.more.ensures _)
 
-pub returns-in-Known : goal.returns-in-Known
-returns-in-Known c =
-    let ran = (goal.at.returns-in-Known c).After-family_of in
+pub returns-in-Some : goal.returns-in-Some
+returns-in-Some c =
+    let ran = (goal.at.returns-in-Some c).After-family_of in
     let s = text (start ran) in
     as_accepted family_field family_rest s 13 _ 1
-    (sym (byte_full family 7 3 _ (rest ran) (bytes_drop 13 s (all (start ran))) (here ran) (found ran _ c.in-Known.is)))
+    (sym (byte_full family 7 3 _ (rest ran) (bytes_drop 13 s (all (start ran))) (here ran) (found ran _ c.in-Some.is)))
     c.from_length.ensures
 
-pub returns-in-Unknown : goal.returns-in-Unknown
-returns-in-Unknown c =
-    let ran = (goal.at.returns-in-Unknown c).After-family_of in
+pub returns-in-None : goal.returns-in-None
+returns-in-None c =
+    let ran = (goal.at.returns-in-None c).After-family_of in
     let s = text (start ran) in
     as_refused family_field family_rest s 13 7 0
-    (sym (byte_full family 7 3 _ (rest ran) (bytes_drop 13 s (all (start ran))) (here ran) (found ran _ c.in-Unknown.is)))
+    (sym (byte_full family 7 3 _ (rest ran) (bytes_drop 13 s (all (start ran))) (here ran) (found ran _ c.in-None.is)))
     (c.refused.ensures s)

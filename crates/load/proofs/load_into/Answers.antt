@@ -3,17 +3,14 @@ use Rattle.std.proofs.Common.{ℕ, ◌≤◌, ◌≡◌, sym, ap, ◌∙◌, Boo
 use Rattle.exact.specs.Pick.{pick}
 use Rattle.record.specs.declared.Kind.{Kind}
 use Rattle.record.specs.declared.Checksum.{Checksum}
-use Rattle.record.specs.declared.Family.{Family}
-use Rattle.record.specs.KnownFamily.{told_family}
-use Rattle.kind_code.specs.declared.State.{State}
+use Rattle.std.specs.Prelude.{Option}
 use Rattle.kind_code.specs.Codes.{kind_of}
-use Rattle.kind_code.specs.States.{told_state}
 use Rattle.stored_form.specs.declared.StoredVersion.{StoredVersion}
 use Rattle.stored_form.specs.Heads.{head_length, state_in}
 use Rattle.stored_form.proofs.HeadLaws.{six_at_least}
 use Rattle.stored_form.specs.Loading.{LoadAnswer, no_record, has_mark, has_version, load_block, load_answer}
 use Rattle.stored_form.proofs.LoadLaws.{answer_short, answer_mark, answer_version, answer_code, answer_no_state, answer_state}
-use Rattle.load.proofs.load_into.Goals.{After-clean_state, After-has_mark, After-has_version, After-head_length, After-kind_of, After-state_in, Else-s-head_length, In-Known, In-Known-state_in}
+use Rattle.load.proofs.load_into.Goals.{After-clean_state, After-has_mark, After-has_version, After-head_length, After-kind_of, After-state_in, Else-s-head_length, In-Some, In-Some-state_in}
 use Rattle.load.specs.After.{record_after}
 use Rattle.load.proofs.load_into.Goals as goal
 
@@ -86,14 +83,14 @@ module _ (c : After-kind_of) where
   versioned : has_version (version (first tested)) (bytes (first tested)) ≡ true
   versioned = sym tested.has_version.ensures ∙ c.if-not-has_version.false
 
-  found : (x : Family) → c.kind_of.result ≡ x → kind_of (get_or (bytes (first tested)) 5 0) ≡ told_family x
-  found x e = sym c.kind_of.ensures ∙ ap told_family e
+  found : (x : Option Kind) → c.kind_of.result ≡ x → kind_of (get_or (bytes (first tested)) 5 0) ≡ x
+  found x e = sym c.kind_of.ensures ∙ e
 
-pub returns-in-Unknown : goal.returns-in-Unknown
-returns-in-Unknown c =
-    let d = (goal.at.returns-in-Unknown c).After-kind_of in
+pub returns-in-None : goal.returns-in-None
+returns-in-None c =
+    let d = (goal.at.returns-in-None c).After-kind_of in
     let e = tested d in
-    let it = refused (first e) (answer_code (version (first e)) (bytes (first e)) (long (lengthy e)) (marked e) (versioned d) (found d _ c.in-Unknown.is)) in
+    let it = refused (first e) (answer_code (version (first e)) (bytes (first e)) (long (lengthy e)) (marked e) (versioned d) (found d _ c.in-None.is)) in
     record { answer = it.0; put = it.1 }
 
 pub state_in-requires : goal.state_in-requires
@@ -101,28 +98,28 @@ state_in-requires c = long (lengthy (tested (goal.at.state_in-requires c).After-
 
 -- behind the kind code
 module _ (c : After-state_in) where
-  abbrev named : In-Known
-  named = (goal.at.After-state_in c).In-Known
+  abbrev named : In-Some
+  named = (goal.at.After-state_in c).In-Some
 
   abbrev coded : After-kind_of
-  coded = (goal.at.In-Known named).After-kind_of
+  coded = (goal.at.In-Some named).After-kind_of
 
   abbrev at_first : After-head_length
   at_first = first (tested coded)
 
   abbrev kind : Kind
-  kind = named.in-Known.kind
+  kind = named.in-Some.kind
 
-  said : (x : State) → c.state_in.result ≡ x → state_in (version at_first) (bytes at_first) ≡ told_state x
-  said x e = sym c.state_in.ensures ∙ ap told_state e
+  said : (x : Option Checksum) → c.state_in.result ≡ x → state_in (version at_first) (bytes at_first) ≡ x
+  said x e = sym c.state_in.ensures ∙ e
 
-pub returns-in-Unknown-state_in : goal.returns-in-Unknown-state_in
-returns-in-Unknown-state_in c =
-    let s = (goal.at.returns-in-Unknown-state_in c).After-state_in in
+pub returns-in-None-state_in : goal.returns-in-None-state_in
+returns-in-None-state_in c =
+    let s = (goal.at.returns-in-None-state_in c).After-state_in in
     let d = coded s in
     let e = tested d in
-    let it = refused (first e) (answer_no_state (version (first e)) (bytes (first e)) (long (lengthy e)) (marked e) (versioned d) (kind s) (found d _ (named s).in-Known.is)
-    (said s _ c.in-Unknown-state_in.is)) in
+    let it = refused (first e) (answer_no_state (version (first e)) (bytes (first e)) (long (lengthy e)) (marked e) (versioned d) (kind s) (found d _ (named s).in-Some.is)
+    (said s _ c.in-None-state_in.is)) in
     record { answer = it.0; put = it.1 }
 
 pub load_block-requires : goal.load_block-requires
@@ -130,17 +127,17 @@ load_block-requires c = long (lengthy (tested (coded (goal.at.load_block-require
 
 -- behind the state
 module _ (c : After-clean_state) where
-  abbrev stated : In-Known-state_in
-  stated = (goal.at.After-clean_state c).In-Known-state_in
+  abbrev stated : In-Some-state_in
+  stated = (goal.at.After-clean_state c).In-Some-state_in
 
   abbrev before-state : After-state_in
-  before-state = (goal.at.In-Known-state_in stated).After-state_in
+  before-state = (goal.at.In-Some-state_in stated).After-state_in
 
   abbrev at-start : After-head_length
   at-start = at_first before-state
 
   abbrev checksum : Checksum
-  checksum = stated.in-Known-state_in.checksum
+  checksum = stated.in-Some-state_in.checksum
 
   by_state : (b : Bool) → c.clean_state.result ≡ b
       → load_answer (version at-start) (bytes at-start) ≡ pick b (load_block (version at-start) (kind before-state) checksum (bytes at-start)) (no_record 24)
@@ -148,7 +145,7 @@ module _ (c : After-clean_state) where
       let d = coded before-state in
       let t = tested d in
       answer_state (version at-start) (bytes at-start) (long (lengthy t)) (marked t) (versioned d) (kind before-state)
-      (found d _ (named before-state).in-Known.is) checksum (said before-state _ stated.in-Known-state_in.is) b (sym c.clean_state.ensures ∙ e)
+      (found d _ (named before-state).in-Some.is) checksum (said before-state _ stated.in-Some-state_in.is) b (sym c.clean_state.ensures ∙ e)
 
 pub returns-then-clean_state : goal.returns-then-clean_state
 returns-then-clean_state c =
