@@ -4,23 +4,16 @@
 ghost use Rattle.std.specs.Prelude.{◌≡◌, [], ◌∷◌};
 ghost use Rattle.network32.specs.Network32.{network32, number32_at};
 
-use exact::number;
-
 // The bytes of a number, high byte first.
 pub fn network_bytes(n: u32) -> [u8; 4]
     ensures { result ≡ network32 n }
 {
-    [
-        ((n >> 24) % 256) as u8,
-        ((n >> 16) % 256) as u8,
-        ((n >> 8) % 256) as u8,
-        (n % 256) as u8,
-    ]
+    n.to_be_bytes()
 }
 
 // The number of four bytes, high byte first.
 pub fn network_number(a: u8, b: u8, c: u8, d: u8) -> u32
     ensures { result ≡ number32_at (a ∷ b ∷ c ∷ d ∷ []) 0 }
 {
-    number(a, b) as u32 * 65536 + number(c, d) as u32
+    u32::from_be_bytes([a, b, c, d])
 }
