@@ -56,7 +56,7 @@ from_skipped r f h w =
         back = [];
         mid = 0;
         split = sym (append-nil w.block);
-        first = record { size = refl; bytes = w.bytes; None = refl };
+        first = record { size = refl; bytes = w.bytes; none = refl };
         second = (refl, w.says);
       };
     }
@@ -209,13 +209,13 @@ from_addressed k f h w =
         back = b.to ++ (port_bytes k b.p ++ (port_bytes k b.q ++ w.area));
         mid = b.from;
         split = refl;
-        first = record { value = 0; whole = record { size = b.from_length; bytes = b.from_bytes; None = refl }; text = refl };
+        first = record { value = 0; whole = record { size = b.from_length; bytes = b.from_bytes; none = refl }; text = refl };
         second = record {
           front = b.to;
           back = port_bytes k b.p ++ (port_bytes k b.q ++ w.area);
           mid = b.to;
           split = refl;
-          first = record { value = 0; whole = record { size = b.to_length; bytes = b.to_bytes; None = refl }; text = refl };
+          first = record { value = 0; whole = record { size = b.to_length; bytes = b.to_bytes; none = refl }; text = refl };
           second = record {
             front = port_bytes k b.p;
             back = port_bytes k b.q ++ w.area;
