@@ -1,60 +1,61 @@
 // CRC32C: the register goes through the bytes eight at a time, each half byte by a row of the table. No public function has a `requires`.
 #![tactic(auto)]
 
-ghost use Rattle.std.specs.Prelude.{◌≡◌, ◌+◌, ◌*◌, ◌%◌, ◌≤◌, ◌<◌, length, take, drop};
+ghost use Rattle.std.specs.Prelude.{◌≡◌, [], ◌∷◌, ◌+◌, ◌*◌, ◌%◌, ◌≤◌, ◌<◌};
 ghost use Rattle.std.specs.Int.Bits.{bit_xor};
 ghost use Rattle.crc.specs.Crc.{bits, byte, register, checksum, cleared};
-ghost use Rattle.crc.specs.Table.{Right};
 
 mod table;
 
-use table::entries;
+use table::TABLE;
 
 // What the bits of `row` + 1 bytes make of the low byte of x with b put onto it. Half of the byte is looked up at a time.
-fn entry(table: &[u32; 256], row: usize, x: u32, b: u8) -> u32
-    requires { Right table.now × (row < 8) }
+fn entry(row: usize, x: u32, b: u8) -> u32
+    requires { row < 8 }
     ensures { result ≡ bits ((row + 1) * 8) (bit_xor x b % 256) }
 {
     let low = ((x ^ b as u32) % 256) as usize;
-    table[row * 32 + 16 + low % 16] ^ table[row * 32 + low / 16]
+    TABLE[row * 32 + 16 + low % 16] ^ TABLE[row * 32 + low / 16]
 }
 
 // The register after one byte.
-fn one(table: &[u32; 256], state: u32, b: u8) -> u32
-    requires { Right table.now }
+fn one(state: u32, b: u8) -> u32
     ensures { result ≡ byte state b }
 {
-    entry(table, 0, state, b) ^ (state >> 8)
+    entry(0, state, b) ^ (state >> 8)
 }
 
-// What the bits of `row` bytes make of the register after the four bytes at `at`. Each byte is looked up by itself.
-fn four(table: &[u32; 256], row: usize, state: u32, bytes: &[u8], at: usize) -> u32
-    requires { Right table.now × (row ≤ 4) × (at + 4 ≤ length bytes.now) }
-    ensures { result ≡ bits (row * 8) (register state (take 4 (drop at bytes.now))) }
+// What the bits of `row` bytes make of the register after four bytes. Each byte is looked up by itself.
+fn four(row: usize, state: u32, a: u8, b: u8, c: u8, d: u8) -> u32
+    requires { row ≤ 4 }
+    ensures { result ≡ bits (row * 8) (register state (a ∷ b ∷ c ∷ d ∷ [])) }
 {
-    let first = entry(table, row + 3, state, bytes[at]);
-    let second = entry(table, row + 2, state >> 8, bytes[at + 1]);
-    let third = entry(table, row + 1, state >> 16, bytes[at + 2]);
-    let fourth = entry(table, row, state >> 24, bytes[at + 3]);
+    let first = entry(row + 3, state, a);
+    let second = entry(row + 2, state >> 8, b);
+    let third = entry(row + 1, state >> 16, c);
+    let fourth = entry(row, state >> 24, d);
     first ^ (second ^ (third ^ fourth))
 }
 
-// The register after the bytes. The table is lent: a function that names it makes it anew at each call.
-fn crc_part(table: &[u32; 256], state: u32, bytes: &[u8]) -> u32
-    requires { Right table.now }
+// The register after eight bytes. What does not wait for the register comes first.
+fn eight(state: u32, bytes: &[u8; 8]) -> u32
     ensures { result ≡ register state bytes.now }
 {
+    let second = four(0, 0, bytes[4], bytes[5], bytes[6], bytes[7]);
+    four(4, state, bytes[0], bytes[1], bytes[2], bytes[3]) ^ second
+}
+
+// The register after the bytes.
+fn crc_part(state: u32, bytes: &[u8]) -> u32
+    ensures { result ≡ register state bytes.now }
+{
+    let (eights, rest) = bytes.as_chunks::<8>();
     let mut r = state;
-    let mut i = 0;
-    while bytes.len() - i >= 8 {
-        // first what does not wait for the register
-        let second = four(table, 0, 0, bytes, i + 4);
-        r = four(table, 4, r, bytes, i) ^ second;
-        i += 8;
+    for next in eights {
+        r = eight(r, next);
     }
-    while i < bytes.len() {
-        r = one(table, r, bytes[i]);
-        i += 1;
+    for b in rest {
+        r = one(r, *b);
     }
     r
 }
@@ -63,17 +64,15 @@ fn crc_part(table: &[u32; 256], state: u32, bytes: &[u8]) -> u32
 pub fn crc32c(bytes: &[u8]) -> u32
     ensures { result ≡ checksum bytes.now }
 {
-    let table = entries();
-    crc_part(&table, 0xffffffff, bytes) ^ 0xffffffff
+    crc_part(0xffffffff, bytes) ^ 0xffffffff
 }
 
 // The checksum of the bytes with the four at this place taken as zero; they are neither altered nor copied.
 pub fn crc32c_cleared(bytes: &[u8], at: usize) -> u32
     ensures { result ≡ checksum (cleared at bytes.now) }
 {
-    let table = entries();
-    let before = crc_part(&table, 0xffffffff, lent::front(bytes, at));
-    let zeros = crc_part(&table, before, &[0; 4]);
+    let before = crc_part(0xffffffff, lent::front(bytes, at));
+    let zeros = crc_part(before, &[0; 4]);
     let rest = lent::behind(lent::behind(bytes, at), 4);
-    crc_part(&table, zeros, rest) ^ 0xffffffff
+    crc_part(zeros, rest) ^ 0xffffffff
 }
