@@ -1,4 +1,5 @@
 pub mod Answers
 pub mod Sight
+pub mod Headers
 pub mod OneSight
 pub mod OutputLaws

@@ -77,6 +77,38 @@ pub struct Seen {
     pub caller: Caller,
 }
 
+// Why the bytes so far are no whole header.
+#[derive(Clone, Copy)]
+pub enum Stop {
+    // Some continuation is one, and so few further bytes could make it whole.
+    More { least: usize },
+    // None is, and the byte at this place is the first that rules it out.
+    Refused { refusal: Refusal, place: usize },
+}
+
+// What a part of the bytes says, and the place behind it.
+#[derive(Clone, Copy)]
+pub struct Found<T> {
+    pub value: T,
+    pub end: usize,
+}
+
+// A whole header before a record is made of it. A line is seen by its caller; a block by its kind, since its addresses stand in the bytes
+// themselves, from 16 on.
+#[derive(Clone, Copy)]
+pub enum Sight {
+    Line(Found<Caller>),
+    Block(Found<Kind>),
+}
+
+// A whole header at the front of the bytes: its length, its version, 1 or 2, and its record.
+#[derive(Clone, Copy)]
+pub struct Header {
+    pub length: usize,
+    pub version: u8,
+    pub record: Record,
+}
+
 // A caller of whom only the kind is known.
 pub fn of_kind(kind: Kind) -> Caller
     ensures { result ≡ kind_only kind }
