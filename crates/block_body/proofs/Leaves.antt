@@ -1,8 +1,8 @@
 -- The verdicts of the leaves of a block on bytes, by the tests that the code makes.
+use Rattle.std.specs.Prelude.{Option, Some, None}
 use mathlib.Core.Path.{◌≡◌, refl, ap, ◌∙◌}
 use mathlib.Core.Bool.{Bool, true, false}
 use mathlib.Core.List.{List, [], ◌∷◌}
-use mathlib.Core.Option.{Option, some, none}
 use Prim.Native.Nat.{ℕ, zero, suc, ◌+◌, ◌-◌, ◌≤◌, ◌<◌}
 use native.Mathlib.Omega.{arith}
 use lib.Dec.{eqb, leb}
@@ -44,7 +44,7 @@ module _ {A : Type 0} (table : ℕ → Option A) (k least : ℕ) where
       ap (λ (m : Move (Unit {0}) A). moved k m (run k (step_byte table) (λ q. least) t)) step
 
 pub any_full : (k least : ℕ) → Full (byte any k least) 1 (λ t. get_or t 0 0)
-any_full k least t b h = byte_full any k least (some (get_or t 0 0)) t b h refl
+any_full k least t b h = byte_full any k least (Some (get_or t 0 0)) t b h refl
 
 -- ── a number that keeps a rule, with what is asked before its first byte and behind each high byte ──
 module _ (good : ℕ → Bool) (k first : ℕ) (second : ℕ → ℕ) where
@@ -58,7 +58,7 @@ module _ (good : ℕ → Bool) (k first : ℕ) (second : ℕ → ℕ) where
   number_one h small = next_full _ low_byte 1 _ (any_full k first) (h ∷ []) (small, tt) (omega arith)
 
   last : (x : Bool) (h n : ℕ) (rest : Unit {0} → Verdict ℕ)
-      → shift 1 (moved k (found (low good h) (pick x (some n) none)) rest) ≡ pick x (accepted n 2) (refused k 1)
+      → shift 1 (moved k (found (low good h) (pick x (Some n) None)) rest) ≡ pick x (accepted n 2) (refused k 1)
   last true h n rest = refl
   last false h n rest = refl
 
@@ -69,7 +69,7 @@ module _ (good : ℕ → Bool) (k first : ℕ) (second : ℕ → ℕ) where
   number_full x (c ∷ []) b h g = absurd (omega arith)
   number_full x (c ∷ d ∷ t) b h g =
       next_full _ low_byte 1 _ (any_full k first) (c ∷ d ∷ t) b (omega arith)
-      ∙ ap (shift 1) (byte_full (low good c) k (second c) (pick x (some (number_at (c ∷ d ∷ t) 0)) none) (d ∷ t) b.1 (omega arith) (simp g))
+      ∙ ap (shift 1) (byte_full (low good c) k (second c) (pick x (Some (number_at (c ∷ d ∷ t) 0)) None) (d ∷ t) b.1 (omega arith) (simp g))
       ∙ last x c (number_at (c ∷ d ∷ t) 0) _
 
 pub any_number : (k first : ℕ) (second : ℕ → ℕ) → Full (number always k first second) 2 (λ t. number_at t 0)

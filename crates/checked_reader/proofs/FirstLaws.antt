@@ -1,9 +1,9 @@
 -- The first 0x03 TLV of an area: how a lookup finds it, and what it says of the header.
+use Rattle.std.specs.Prelude.{Option, Some, None as nothing}
 use mathlib.Core.Path.{◌≡◌, refl, sym, ap, ap₂, ◌∙◌, subst}
 use mathlib.Core.Bool.{Bool, true, false}
 use mathlib.Core.List.{List, [], ◌∷◌, ◌++◌, append_assoc}
 use mathlib.Core.Logic.{◌⊎◌, inl, inr, ⊎_elim}
-use mathlib.Core.Option.{Option, some, none as nothing}
 use Prim.Native.Nat.{ℕ, suc, ◌+◌, ◌-◌, ◌≤◌, ◌<◌}
 use native.Mathlib.Omega.{arith}
 use borrow.Author.Tests.{eqb-true, eqb-false, le-leb, le-ltb}
@@ -85,10 +85,10 @@ module _ (area : List ℕ) (tlvs : List Tlv) (a : Area area tlvs) (r : Examined)
       (ap (λ (w : ℕ). index_of_first w f.before) f.is ∙ first_at_end 0x03 f.before f.none) size
 
   -- where it finds none there is none
-  absent_state : (header : List ℕ) → (told_finding r.answer ≡ found → ⊥) → state_in header (tlvs_of area) ≡ some Absent
+  absent_state : (header : List ℕ) → (told_finding r.answer ≡ found → ⊥) → state_in header (tlvs_of area) ≡ Some Absent
   absent_state header other =
       ap (state_in header) (tlvs_of_lem area tlvs a)
-      ∙ ⊎_elim (λ none. means_one header tlvs (some Absent) (no_checksum none)) (λ f. absurd (other (ap (λ (l : Lookup). l.outcome) (one_found f))))
+      ∙ ⊎_elim (λ none. means_one header tlvs (Some Absent) (no_checksum none)) (λ f. absurd (other (ap (λ (l : Lookup). l.outcome) (one_found f))))
       (first_or_none 0x03 tlvs)
 
   -- and what it finds is the first
@@ -112,7 +112,7 @@ module _ (area : List ℕ) (tlvs : List Tlv) (a : Area area tlvs) (r : Examined)
 module _ (area : List ℕ) (r : Examined) (looks : LooksUp area 0x03 (length area) r) (header : List ℕ) where
   -- the state of the header that ends with it
   abbrev here : Option Checksum
-  here = pick (well_formed area) (state_in header (tlvs_of area)) (some Absent)
+  here = pick (well_formed area) (state_in header (tlvs_of area)) (Some Absent)
 
   pub fills : told_finding r.answer ≡ found → WellFormed area
   fills is = by (well_formed area) refl
@@ -131,11 +131,11 @@ module _ (area : List ℕ) (r : Examined) (looks : LooksUp area 0x03 (length are
   found_here last is = let w = fills is in found_first area w.0 w.1 r (listed_here w) header last is
 
   pub filled_here : WellFormed area → state_in header (tlvs_of area) ≡ here
-  filled_here w = ap (λ (b : Bool). pick b (state_in header (tlvs_of area)) (some Absent)) (sym ((well_formed_tested area).1 w))
+  filled_here w = ap (λ (b : Bool). pick b (state_in header (tlvs_of area)) (Some Absent)) (sym ((well_formed_tested area).1 w))
 
-  pub absent_here : (told_finding r.answer ≡ found → ⊥) → some Absent ≡ here
+  pub absent_here : (told_finding r.answer ≡ found → ⊥) → Some Absent ≡ here
   absent_here other =
-      pick_by (λ (x : Option Checksum). some Absent ≡ x) (well_formed area)
+      pick_by (λ (x : Option Checksum). Some Absent ≡ x) (well_formed area)
       (λ e. let w = (well_formed_tested area).0 e in sym (absent_state area w.0 w.1 r (listed_here w) header other))
       (λ e. refl)
 
@@ -270,7 +270,7 @@ module _ (header area : List ℕ) (start size : ℕ) (f : FirstAt header area st
         ∙ checksum_parts body (tlvs_of area)
         ∙ ap (λ (l : List ℕ). stored (checksum l)) (zeros_written ∙ sym taken_as_zero)
 
-    pub one_value : state_in header (tlvs_of area) ≡ pick (same (take 4 (drop at header)) (stored (checksum (cleared at header)))) (some Matched) nothing
+    pub one_value : state_in header (tlvs_of area) ≡ pick (same (take 4 (drop at header)) (stored (checksum (cleared at header)))) (Some Matched) nothing
     one_value =
         ap (λ (l : List (List ℕ)). state_by l (checksum_of header (tlvs_of area))) (values ∙ ap (λ (l : List (List ℕ)). t.value ∷ l) no_more)
-        ∙ ap₂ (λ (x y : List ℕ). pick (same x y) (some Matched) nothing) (sym the_value) the_sum
+        ∙ ap₂ (λ (x y : List ℕ). pick (same x y) (Some Matched) nothing) (sym the_value) the_sum

@@ -1,8 +1,8 @@
 -- The header and its TLV area as parts of the bytes read, and the state of the header that they begin with.
+use Rattle.std.specs.Prelude.{Some}
 use mathlib.Core.Path.{◌≡◌, refl, ap, ap₂, ◌∙◌}
 use mathlib.Core.Bool.{Bool, true, false}
 use mathlib.Core.List.{List, []}
-use mathlib.Core.Option.{some}
 use Prim.Native.Nat.{ℕ, ◌+◌, ◌-◌, ◌≤◌, min}
 use native.Mathlib.Omega.{arith}
 use lib.Dec.{eqb}
@@ -66,7 +66,7 @@ module _ (s : List ℕ) where
       let inside = area_inside w kind (length s) in
       let area_is : drop start (take end s) ≡ area_by w kind s =
       cut s start end (omega arith) (omega arith) ∙ ap₂ (λ (m n : ℕ). take (n - m) (drop m s)) from to ∙ area_part w kind s in
-      ap (λ (a : List ℕ). pick (well_formed a) (state_in (take end s) (tlvs_of a)) (some Absent)) area_is
-      ∙ ap (λ (b : Bool). pick b (state_in (take end s) (tlvs_of (area_by w kind s))) (some Absent)) ((well_formed_tested (area_by w kind s)).1 (filled w r j))
+      ap (λ (a : List ℕ). pick (well_formed a) (state_in (take end s) (tlvs_of a)) (Some Absent)) area_is
+      ∙ ap (λ (b : Bool). pick b (state_in (take end s) (tlvs_of (area_by w kind s))) (Some Absent)) ((well_formed_tested (area_by w kind s)).1 (filled w r j))
       ∙ ap (λ (n : ℕ). state_in (take n s) (tlvs_of (area_by w kind s))) to
       ∙ state_told w r j

@@ -1,6 +1,6 @@
 -- The longest prefix of the rows before a place, and what a row more makes of it.
+use Rattle.std.specs.Prelude.{Option, Some, None}
 use Rattle.std.proofs.Common.{◌≡◌, refl, sym, ap, ◌∙◌, Bool, true, false, ◌&&◌, List, ℕ, suc, ◌+◌, ◌-◌, ◌≤◌, ◌<◌, arith, lt-ltb, le-ltb, ltb, length, drop, get_or}
-use mathlib.Core.Option.{Option, some, none}
 use Rattle.exact.specs.Pick.{pick}
 use Rattle.prefix.specs.Prefix.{Prefix, row_of}
 use Rattle.prefix.specs.PrefixTests.{matches}
@@ -14,7 +14,7 @@ pub record Far (table : List ℕ) (family : ℕ) (source : List ℕ) (at far lev
   pub reaches : far ≡ reach best
   pub gives : level ≡ level_of best
   pub inside : at ≤ length table
-  pub decides : longest_from best (rows_of (drop at table)) family source ≡ longest_from none (rows_of table) family source
+  pub decides : longest_from best (rows_of (drop at table)) family source ≡ longest_from None (rows_of table) family source
 
 neither : (b : Bool) → b && false ≡ false
 neither true = refl
@@ -25,16 +25,16 @@ module _ (table source : List ℕ) (family at far level : ℕ) (so_far : Far tab
   p = row_of (drop at table)
 
   next : (reached gained : ℕ) (b : Bool) → matches p family source && ltb (reach so_far.best) (suc p.bits) ≡ b
-      → reached ≡ reach (pick b (some p) so_far.best) → gained ≡ level_of (pick b (some p) so_far.best)
+      → reached ≡ reach (pick b (Some p) so_far.best) → gained ≡ level_of (pick b (Some p) so_far.best)
       → Far table family source (at + 19) reached gained
   next reached gained b is r l =
       record {
-        best = pick b (some p) so_far.best;
+        best = pick b (Some p) so_far.best;
         reaches = r;
         gives = l;
         inside = omega arith;
         decides =
-            ap (λ (t : Bool). longest_from (pick t (some p) so_far.best) (rows_of (drop (at + 19) table)) family source) (sym is)
+            ap (λ (t : Bool). longest_from (pick t (Some p) so_far.best) (rows_of (drop (at + 19) table)) family source) (sym is)
             ∙ sym (ap (λ (rows : List Prefix). longest_from so_far.best rows family source) (rows_at table at inside))
             ∙ so_far.decides;
       }

@@ -1,8 +1,8 @@
 -- What a checked reading makes of what the plain one has told: another answer than accepted stays; of an accepted header the state is put, or 23 is told.
+use Rattle.std.specs.Prelude.{Option, Some, None}
 use mathlib.Core.Path.{◌≡◌, refl, sym, ap, ap₂, ◌∙◌}
 use mathlib.Core.Bool.{Bool, true, false}
 use mathlib.Core.List.{List, [], ◌∷◌, ◌++◌, append_assoc}
-use mathlib.Core.Option.{Option, some, none}
 use Prim.Native.Nat.{ℕ, ◌-◌}
 use lib.ListN.{length, take, drop, set, length-append}
 use lib.Seq.{set-append_seam}
@@ -85,8 +85,8 @@ module _ (s numbers connection : List ℕ) where
     -- the state by where the numbers tell that the area starts
     pub state_told : state_from (take m s) (m - length h.area) ≡ state_on s (verdict s)
     state_told =
-        ap (λ (x : List ℕ). pick (well_formed x) (state_in (take m s) (tlvs_of x)) (some Absent)) (area_told s numbers connection n c a)
-        ∙ ap (λ (b : Bool). pick b (state_in (take m s) (tlvs_of h.area)) (some Absent)) ((well_formed_tested h.area).1 (area_filled (take m s) h here))
+        ap (λ (x : List ℕ). pick (well_formed x) (state_in (take m s) (tlvs_of x)) (Some Absent)) (area_told s numbers connection n c a)
+        ∙ ap (λ (b : Bool). pick b (state_in (take m s) (tlvs_of h.area)) (Some Absent)) ((well_formed_tested h.area).1 (area_filled (take m s) h here))
         ∙ ap (state_on s) (sym a.is)
 
     by_state_lem : (x : Option Checksum) → x ≡ state_on s (verdict s) → spoken_checked (checked_verdict s) ≡ spoken_checked (by_state h m x)
@@ -95,10 +95,10 @@ module _ (s numbers connection : List ℕ) where
         ∙ ap (λ (y : Option Checksum). spoken_checked (by_state h m y)) (sym e)
 
     -- the state is put last
-    pub state_written : (k : Checksum) (byte : ℕ) → byte ≡ state_byte k → some k ≡ state_on s (verdict s)
+    pub state_written : (k : Checksum) (byte : ℕ) → byte ≡ state_byte k → Some k ≡ state_on s (verdict s)
         → ReadTold (spoken_checked (checked_verdict s)) numbers connection 0 n (set c 221 byte)
     state_written k byte is e =
-        let x = by_state_lem (some k) e in
+        let x = by_state_lem (Some k) e in
         let kept = record_plain (take m s) h here in
         told_as (spoken_checked (checked_verdict s)) numbers connection 0 n (set c 221 byte) a.room (ap (λ (y : Spoken). y.answer) (sym x))
         (a.numbers_told ∙ ap (λ (y : Spoken). over y.numbers numbers) (sym x))
@@ -107,10 +107,10 @@ module _ (s numbers connection : List ℕ) where
         ∙ ap (λ (y : Spoken). over (connection_bytes y.«record») connection) (sym x))
 
     -- or 23 is told over what was
-    pub wrong_written : (n' c' : List ℕ) → none ≡ state_on s (verdict s) → n' ≡ told_in numbers_size (0 ∷ 0 ∷ 0 ∷ 0 ∷ []) n
+    pub wrong_written : (n' c' : List ℕ) → None ≡ state_on s (verdict s) → n' ≡ told_in numbers_size (0 ∷ 0 ∷ 0 ∷ 0 ∷ []) n
         → c' ≡ told_in connection_size (connection_bytes (bare Unspecified)) c → ReadTold (spoken_checked (checked_verdict s)) numbers connection 23 n' c'
     wrong_written n' c' e en ec =
-        let x = by_state_lem none e in
+        let x = by_state_lem None e in
         told_as (spoken_checked (checked_verdict s)) numbers connection 23 n' c' a.room (ap (λ (y : Spoken). y.answer) (sym x))
         (en
         ∙ sym (roomy numbers_size n _ _ (long_numbers s numbers connection n c a))

@@ -1,7 +1,7 @@
 -- What noting a sub-TLV does to the ten numbers, and how a piece is taken out of them.
+use Rattle.std.specs.Prelude.{Option, None}
 use mathlib.Core.Path.{◌≡◌, refl, sym, ap, ap₂, ◌∙◌}
 use mathlib.Core.List.{List, [], ◌∷◌}
-use mathlib.Core.Option.{Option, none}
 use Prim.Native.Nat.{ℕ, zero, suc, ◌+◌, ◌*◌, ◌≤◌, ◌<◌}
 use native.Mathlib.Omega.{arith}
 use borrow.Author.Tests.{eq-eqb, ne_eqb}
@@ -28,7 +28,7 @@ found_length (s ∷ k ∷ rest) (suc n) e = ap suc (found_length rest n (omega a
 
 -- the part with this index
 pub found_at : (i : ℕ) (found : List ℕ) → suc (place i) < length found
-    → found_part (get_or found (place i) 0) (get_or found (suc (place i)) 0) ≡ get_or (found_parts found) i none
+    → found_part (get_or found (place i) 0) (get_or found (suc (place i)) 0) ≡ get_or (found_parts found) i None
 found_at i [] h = absurd (omega arith)
 found_at i (s ∷ []) h = absurd (omega arith)
 found_at zero (s ∷ k ∷ rest) h = refl

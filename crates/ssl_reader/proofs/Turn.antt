@@ -1,8 +1,8 @@
 -- A turn of the reader's loop: what is known of the value and the numbers found where some sub-TLVs are passed.
+use Rattle.std.specs.Prelude.{Option, None}
 use mathlib.Core.Path.{◌≡◌, refl, sym, ap, ap₂, ◌∙◌, subst}
 use mathlib.Core.Bool.{Bool, true, false}
 use mathlib.Core.List.{List, [], ◌∷◌, ◌++◌, append-nil, append_assoc}
-use mathlib.Core.Option.{Option, none}
 use Prim.Native.Nat.{ℕ, suc, ◌+◌, ◌≤◌, ◌<◌}
 use native.Mathlib.Omega.{arith}
 use borrow.Author.Tests.{leb-true, leb-false}
@@ -119,8 +119,8 @@ module _ (value : List ℕ) where
       said : said_in value ≡ said_by (client_of value) (verify_of value) p.subs
       said = said_listed value (omega (arith, p.reached, p.within)) p.subs whole
 
-      piece : (i : ℕ) → suc (place i) < 10 → found_part (get_or found (place i) 0) (get_or found (suc (place i)) 0) ≡ get_or (parts_of p.subs) i none
-      piece i h = found_at i found (omega (arith, p.ten)) ∙ ap (λ (l : List (Option Part)). get_or l i none) p.parts
+      piece : (i : ℕ) → suc (place i) < 10 → found_part (get_or found (place i) 0) (get_or found (suc (place i)) 0) ≡ get_or (parts_of p.subs) i None
+      piece i h = found_at i found (omega (arith, p.ten)) ∙ ap (λ (l : List (Option Part)). get_or l i None) p.parts
 
       abbrev says : List (Option Part) → Said
       says parts = record { outcome = accepted; client = client_of value; verify = verify_of value; parts = parts }

@@ -1,8 +1,8 @@
 -- The pieces of a value, put one behind the other, and their lengths.
+use Rattle.std.specs.Prelude.{Some, None}
 use mathlib.Core.Path.{◌≡◌, refl, sym, ap, ap₂, ◌∙◌}
 use mathlib.Core.Bool.{Bool, true, false, not}
 use mathlib.Core.List.{List, [], ◌∷◌, ◌++◌, append-nil, append_assoc}
-use mathlib.Core.Option.{some, none}
 use Prim.Native.Nat.{ℕ, suc, ◌+◌, ◌≤◌, ◌<◌}
 use native.Mathlib.Omega.{arith}
 use borrow.Author.Tests.{lt-ltb, le-leb}
@@ -22,8 +22,8 @@ use Rattle.ssl_writer.specs.Steps.{size_if, size_all, answer_by, piece_placed, p
 
 -- the bytes of a piece
 abbrev pub piece_bytes : (type : ℕ) → Piece → List ℕ
-piece_bytes type none = []
-piece_bytes type (some bytes) = tlv_bytes type bytes
+piece_bytes type None = []
+piece_bytes type (Some bytes) = tlv_bytes type bytes
 
 -- pieces behind some bytes, the one behind the other
 abbrev pub value_from : List ℕ → (type : ℕ) → List Piece → List ℕ
@@ -31,8 +31,8 @@ value_from text type [] = text
 value_from text type (p ∷ rest) = value_from (text ++ piece_bytes type p) (suc type) rest
 
 one_more : (type : ℕ) (p : Piece) (rest : List Piece) → written (subs_for type (p ∷ rest)) ≡ piece_bytes type p ++ written (subs_for (suc type) rest)
-one_more type none rest = refl
-one_more type (some bytes) rest = refl
+one_more type None rest = refl
+one_more type (Some bytes) rest = refl
 
 pub value_from_lem : (text : List ℕ) (type : ℕ) (pieces : List Piece) → value_from text type pieces ≡ text ++ written (subs_for type pieces)
 value_from_lem text type [] = sym (append-nil text)
@@ -114,8 +114,8 @@ module _ (output text before after : List ℕ) (at behind : ℕ) (type : ℕ) (b
       → length (value_from text type (piece_if there bytes ∷ rest)) < 65536 → length (value_from text type (piece_if there bytes ∷ rest)) ≤ length output
       → Wrote output (text ++ piece_bytes type (piece_if there bytes)) after behind
   next false w e f short room =
-      let none = sym (append-nil text) in
-      record { holds = f ∙ w.holds ∙ ap (λ (l : List ℕ). placed l 0 output) none; place = e ∙ w.place ∙ ap length none }
+      let None = sym (append-nil text) in
+      record { holds = f ∙ w.holds ∙ ap (λ (l : List ℕ). placed l 0 output) None; place = e ∙ w.place ∙ ap length None }
   next true w e f short room =
       let h = from_longer (text ++ tlv_bytes type bytes) (suc type) rest in
       let n = length-append text (tlv_bytes type bytes) in

@@ -1,6 +1,6 @@
 -- Byte 12 is a field that the table of commands gives.
+use Rattle.std.specs.Prelude.{Some, None}
 use Rattle.std.proofs.Common.{ℕ, ◌≤◌, ◌≡◌, refl, sym, ap, ◌∙◌, List, arith, ne_eqb, length, drop, get_or, length-drop, get_or-drop}
-use mathlib.Core.Option.{some, none}
 use Rattle.exact.specs.Claim.{AllBytes}
 use Rattle.fields.specs.BlockFields.{local, proxy, command_of, command}
 use Rattle.fields.proofs.BlockFields.{command_rest, from_command}
@@ -41,7 +41,7 @@ returns-in-32 c =
     let ran = (goal.at.returns-in-32 c).After-shared_slice_known-2-1 in
     let s = text (start ran) in
     as_accepted command command_rest s 12 local 1
-    (sym (byte_full command_of 6 4 (some local) (rest ran) (bytes ran) (here ran) (ap command_of (byte ran ∙ c.in-32.is))))
+    (sym (byte_full command_of 6 4 (Some local) (rest ran) (bytes ran) (here ran) (ap command_of (byte ran ∙ c.in-32.is))))
     c.local.ensures
 
 pub returns-in-33 : goal.returns-in-33
@@ -49,7 +49,7 @@ returns-in-33 c =
     let ran = (goal.at.returns-in-33 c).After-shared_slice_known-2-1 in
     let s = text (start ran) in
     as_accepted command command_rest s 12 proxy 1
-    (sym (byte_full command_of 6 4 (some proxy) (rest ran) (bytes ran) (here ran) (ap command_of (byte ran ∙ c.in-33.is))))
+    (sym (byte_full command_of 6 4 (Some proxy) (rest ran) (bytes ran) (here ran) (ap command_of (byte ran ∙ c.in-33.is))))
     c.proxy.ensures
 
 pub returns-in_default : goal.returns-in_default
@@ -58,7 +58,7 @@ returns-in_default c =
     let s = text (start ran) in
     let x = get_or s 12 0 in
     let others = c.in_default.in_default-own.rest in
-    let unknown : command_of x ≡ none = simp (ne_eqb x 0x20 others.0.1, ne_eqb x 0x21 others.1) in
+    let unknown : command_of x ≡ None = simp (ne_eqb x 0x20 others.0.1, ne_eqb x 0x21 others.1) in
     as_refused command command_rest s 12 6 0
-    (sym (byte_full command_of 6 4 none (rest ran) (bytes ran) (here ran) (ap command_of (byte ran) ∙ unknown)))
+    (sym (byte_full command_of 6 4 None (rest ran) (bytes ran) (here ran) (ap command_of (byte ran) ∙ unknown)))
     (c.refused.ensures s)

@@ -1,6 +1,6 @@
 -- The first 0x03 TLV that the lookup finds says what the checksum does; where it finds none, there is none or TLVs do not fill the area.
+use Rattle.std.specs.Prelude.{Some}
 use Rattle.std.proofs.Common.{◌≡◌, sym, ap, ◌∙◌, List, ◌++◌, ℕ, arith, take, drop, take-append-drop}
-use mathlib.Core.Option.{some}
 use Rattle.exact.specs.Pick.{pick}
 use Rattle.tlv.specs.Test.{well_formed}
 use Rattle.tlv.specs.Listed.{tlvs_of}
@@ -33,10 +33,10 @@ module _ (c : After-lookup-found) where
   )
 
   -- the state by the area that was cut is the one that is promised
-  as_promised : pick (well_formed area) (state_in header (tlvs_of area)) (some Absent) ≡ state_from header start.args.start
-  as_promised = ap (λ (a : List ℕ). pick (well_formed a) (state_in header (tlvs_of a)) (some Absent)) area_is
+  as_promised : pick (well_formed area) (state_in header (tlvs_of area)) (Some Absent) ≡ state_from header start.args.start
+  as_promised = ap (λ (a : List ℕ). pick (well_formed a) (state_in header (tlvs_of a)) (Some Absent)) area_is
 
-  none_there : (x : Answer) → c.lookup-found.result.answer ≡ x → (told_finding x ≡ found → ⊥) → some Absent ≡ state_from header start.args.start
+  none_there : (x : Answer) → c.lookup-found.result.answer ≡ x → (told_finding x ≡ found → ⊥) → Some Absent ≡ state_from header start.args.start
   none_there x e other =
       absent_here area c.lookup-found.result c.lookup-found.ensures header (λ is. other (ap told_finding (sym e) ∙ is)) ∙ as_promised
 

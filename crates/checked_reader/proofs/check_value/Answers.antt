@@ -1,6 +1,6 @@
 -- The three ways of a wrong checksum in turn, and else it matches.
+use Rattle.std.specs.Prelude.{Some, None}
 use Rattle.std.proofs.Common.{◌≡◌, refl, sym, ap, ◌∙◌, Bool, true, false, arith, drop, ◌+◌}
-use mathlib.Core.Option.{some, none}
 use Rattle.exact.specs.Pick.{pick}
 use Rattle.tlv.specs.Listed.{tlvs_of}
 use Rattle.tlv_count.specs.Count.{none_test}
@@ -54,10 +54,10 @@ module _ (c : After-is_right) where
   abbrev d : After-has_none
   d = (goal.at.After-is_right c).After-has_none
 
-  said : (b : Bool) → c.is_right.result ≡ b → pick b (some Matched) none ≡ state_in (start d).args.header.now (tlvs_of (start d).args.area.now)
+  said : (b : Bool) → c.is_right.result ≡ b → pick b (Some Matched) None ≡ state_in (start d).args.header.now (tlvs_of (start d).args.area.now)
   said b e =
       let x = (start d).args in
-      ap (λ (y : Bool). pick y (some Matched) none) (sym e ∙ c.is_right.ensures)
+      ap (λ (y : Bool). pick y (Some Matched) None) (sym e ∙ c.is_right.ensures)
       ∙ sym
       (one_value x.header.now x.area.now x.start x.size (start d).requires (omega (arith, d.if-odd.false))
       (tested d ∙ c.if-not-has_none.false) _ refl)

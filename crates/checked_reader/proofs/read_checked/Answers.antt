@@ -1,6 +1,6 @@
 -- `read` ensures the verdict and `check_header` the state; the answer is the one that is claimed.
+use Rattle.std.specs.Prelude.{Some, None}
 use Rattle.std.proofs.Common.{◌≡◌, refl, sym, ap, ◌∙◌, subst, List, ℕ, arith}
-use mathlib.Core.Option.{some, none}
 use Rattle.exact.specs.Claim as Claim
 use Rattle.exact.specs.Claim.{accepted, more, refused}
 use Rattle.record.specs.declared.Kind.TheVariants.{Unspecified}
@@ -34,21 +34,21 @@ module _ (s : List ℕ) where
   promise x e unused = (e, unused, subst (Checks s) (sym e) (checks s))
 
   -- the record takes the state, and where nothing is accepted there is none to take
-  in_state : (w : Verdict) (r : Reading) (c : Checksum) → judged (told_verdict s w (as_reading w (with_checksum c r.record))) ≡ checked_by (told_verdict s w r) (some c)
+  in_state : (w : Verdict) (r : Reading) (c : Checksum) → judged (told_verdict s w (as_reading w (with_checksum c r.record))) ≡ checked_by (told_verdict s w r) (Some c)
   in_state (Accepted n v) r c = refl
   in_state (More n) r c = refl
   in_state (Refused k p) r c = refl
 
-  bare_absent : (r : Record) (c : Checksum) → some c ≡ some Absent → r ≡ bare Unspecified → with_checksum c r ≡ bare Unspecified
+  bare_absent : (r : Record) (c : Checksum) → Some c ≡ Some Absent → r ≡ bare Unspecified → with_checksum c r ≡ bare Unspecified
   bare_absent r c e u = let is : c ≡ Absent = cc in rw (is, u)
 
-  bare_still : (w : Verdict) (r : Reading) (v : Claim.Verdict Header) (c : Checksum) → told_verdict s w r ≡ v → some c ≡ state_on s v → BareUnless w r
+  bare_still : (w : Verdict) (r : Reading) (v : Claim.Verdict Header) (c : Checksum) → told_verdict s w r ≡ v → Some c ≡ state_on s v → BareUnless w r
       → BareUnless w (as_reading w (with_checksum c r.record))
   bare_still (Accepted n x) r v c e f u = tt
   bare_still (More n) r v c e f u = bare_absent r.record c (f ∙ ap (state_on s) (sym e)) u
   bare_still (Refused k p) r v c e f u = bare_absent r.record c (f ∙ ap (state_on s) (sym e)) u
 
-  wrong_only : (v : Claim.Verdict Header) → none ≡ state_on s v → refuses 23 ≡ checked_by v (state_on s v)
+  wrong_only : (v : Claim.Verdict Header) → None ≡ state_on s v → refuses 23 ≡ checked_by v (state_on s v)
   wrong_only (accepted h n) e = ap (checked_by (accepted h n)) e
   wrong_only (more n) e = let z : ◌≡◌ {A = ℕ} 0 1 = cc in absurd (omega arith)
   wrong_only (refused k p) e = let z : ◌≡◌ {A = ℕ} 0 1 = cc in absurd (omega arith)
@@ -71,11 +71,11 @@ module _ (c : After-check_header-check) where
       ∙ state_spanned bytes reading.verdict reading reads.judged c.area_span-span.result.start c.area_span-span.result.end c.area_span-span.ensures.0 c.area_span-span.ensures.1
       ∙ ap (state_on bytes) reads.answers.told
 
-  told : (checksum : Checksum) → some checksum ≡ state_on bytes (verdict bytes)
+  told : (checksum : Checksum) → Some checksum ≡ state_on bytes (verdict bytes)
       → judged (told_verdict bytes reading.verdict (as_reading reading.verdict (with_checksum checksum reading.record))) ≡ checked_verdict bytes
   told checksum e =
       in_state bytes reading.verdict reading checksum
-      ∙ ap (λ (v : Claim.Verdict Header). checked_by v (some checksum)) reads.answers.told
+      ∙ ap (λ (v : Claim.Verdict Header). checked_by v (Some checksum)) reads.answers.told
       ∙ ap (checked_by (verdict bytes)) e
 
 pub returns-in-State : goal.returns-in-State

@@ -1,6 +1,6 @@
 -- Each row is the next of the table's.
+use Rattle.std.specs.Prelude.{None}
 use Rattle.std.proofs.Common.{refl, sym, ap, ◌∙◌, subst, List, ℕ, ◌+◌, arith}
-use mathlib.Core.Option.{none}
 use Rattle.prefix.specs.Prefix.{Prefix}
 use Rattle.prefix_table.specs.TableTests.{longest_from, level_of}
 use Rattle.prefix_table.proofs.RowLaws.{rows_done}
@@ -9,7 +9,7 @@ use Rattle.prefix_table.proofs.level_of.Goals.{then-further+then-matches, then-f
 use Rattle.prefix_table.proofs.level_of.Goals as goal
 
 pub loop-at-init : goal.loop-at-init
-loop-at-init c = record { best = none; reaches = refl; gives = refl; inside = omega arith; decides = refl }
+loop-at-init c = record { best = None; reaches = refl; gives = refl; inside = omega arith; decides = refl }
 
 pub loop-at-preserved : goal.loop-at-preserved
 loop-at-preserved c =

@@ -1,6 +1,6 @@
 -- The length, then the unique ID, whose place in the header is behind what the area leaves of it.
+use Rattle.std.specs.Prelude.{Some, None}
 use Rattle.std.proofs.Common.{◌≡◌, refl, sym, ap, ap₂, ◌∙◌, Bool, true, false, List, ℕ, ◌+◌, ◌-◌, ◌≤◌, arith, le-leb, length, drop, length-drop}
-use mathlib.Core.Option.{some, none}
 use borrow.Author.Tests.{lt-leb}
 use Rattle.exact.specs.Pick.{pick}
 use Rattle.unique_id.specs.declared.UniqueId.{UniqueId}
@@ -42,11 +42,11 @@ module _ (c : After-unique_id) where
       (ap (λ (t : Bool). pick t (admitted level (length header) (length header - length area + (id_of area).start) (id_of area).size) (denied 33)) (sym e))
 
 -- a value that is told is the one that is there
-some_value : (b : Bool) (v w : Value) → some v ≡ pick b (some w) none → (b ≡ true) × (v ≡ w)
+some_value : (b : Bool) (v w : Value) → Some v ≡ pick b (Some w) None → (b ≡ true) × (v ≡ w)
 some_value true v w e = (refl, cc)
 some_value false v w e = let z : ◌≡◌ {A = ℕ} 0 1 = cc in absurd (omega arith)
 
-no_value : (b : Bool) (w : Value) → none ≡ pick b (some w) none → b ≡ false
+no_value : (b : Bool) (w : Value) → None ≡ pick b (Some w) None → b ≡ false
 no_value true w e = let z : ◌≡◌ {A = ℕ} 0 1 = cc in absurd (omega arith)
 no_value false w e = refl
 

@@ -1,6 +1,6 @@
 -- `write_ssl` ensures what is written, and `tell_written` its numbers.
+use Rattle.std.specs.Prelude.{None}
 use Rattle.std.proofs.Common.{◌≡◌, ap, ◌∙◌, List, ℕ, ltb, length, get_or, take}
-use mathlib.Core.Option.{none}
 use Rattle.exact.specs.Pick.{pick_by}
 use Rattle.answer.specs.Answers.{told_written, output_after}
 use Rattle.ssl_reader.specs.Ssl.{is_absent, lacks_version}
@@ -15,7 +15,7 @@ use Rattle.ssl_interface.proofs.write.Goals as goal
 within : (client verify : ℕ) (pieces : List Piece) (room : ℕ) → Within room (ssl_answer client verify pieces room)
 within client verify pieces room =
     let n = length (ssl_value client verify pieces) in
-    pick_by (Within room) (lacks_version client (is_absent (get_or pieces 0 none))) (λ t. tt)
+    pick_by (Within room) (lacks_version client (is_absent (get_or pieces 0 None))) (λ t. tt)
     (λ t. pick_by (Within room) (ltb n 65536) (λ u. fits_at_last n room 14) (λ u. tt))
 
 module _ (c : After-present_of-there) where

@@ -1,6 +1,6 @@
 -- What is counted and what the lookup finds are the definition's parts.
+use Rattle.std.specs.Prelude.{Option, Some, None}
 use Rattle.std.proofs.Common.{◌≡◌, refl, sym, ap, ap₂, ◌∙◌, Bool, true, false, ◌&&◌, List, ℕ, ◌+◌, arith, eq-eqb, ne_eqb, le-leb, lt-ltb, leb, length}
-use mathlib.Core.Option.{Option, some, none}
 use borrow.Author.Tests.{lt-leb}
 use Rattle.exact.specs.Pick.{pick}
 use Rattle.tlv.specs.Tlv.{Tlv, WellFormed}
@@ -22,16 +22,16 @@ use Rattle.unique_id.proofs.unique_id.Goals as goal
 module _ (area : List ℕ) where
   -- by a TLV list
   abbrev listed : List Tlv → Option Value
-  listed tlvs = pick (has_id tlvs) (some (first_value tlvs)) none
+  listed tlvs = pick (has_id tlvs) (Some (first_value tlvs)) None
 
   -- an area that TLVs fill, by its own
   filled : (w : WellFormed area) → listed w.0 ≡ id_in area
   filled w =
       ap listed (sym (tlvs_of_lem area w.0 w.1))
-      ∙ ap (λ (b : Bool). pick (b && has_id (tlvs_of area)) (some (id_of area)) none) (sym ((well_formed_tested area).1 w))
+      ∙ ap (λ (b : Bool). pick (b && has_id (tlvs_of area)) (Some (id_of area)) None) (sym ((well_formed_tested area).1 w))
 
-  ill_formed : (WellFormed area → ⊥) → none ≡ id_in area
-  ill_formed not = ap (λ (b : Bool). pick (b && has_id (tlvs_of area)) (some (id_of area)) none) (sym (ill_formed_tested area not))
+  ill_formed : (WellFormed area → ⊥) → None ≡ id_in area
+  ill_formed not = ap (λ (b : Bool). pick (b && has_id (tlvs_of area)) (Some (id_of area)) None) (sym (ill_formed_tested area not))
 
   -- what is counted
   counted_here : (x : Count) → Counts area 0x05 x → (n : ℕ) → x ≡ Tlvs n → (w : WellFormed area) × (count_of 0x05 w.0 ≡ n)
@@ -47,9 +47,9 @@ module _ (area : List ℕ) where
   refused_here x c is w = let l = c.listed w.0 w.1 in let z : ◌≡◌ {A = ℕ} 0 1 = cc in omega arith
 
   -- another count than one
-  pub other_count : (n : ℕ) (w : WellFormed area) → count_of 0x05 w.0 ≡ n → (n ≡ 1 → ⊥) → none ≡ id_in area
+  pub other_count : (n : ℕ) (w : WellFormed area) → count_of 0x05 w.0 ≡ n → (n ≡ 1 → ⊥) → None ≡ id_in area
   other_count n w is other =
-      ap (λ (b : Bool). pick (b && is_sized (first_value w.0)) (some (first_value w.0)) none)
+      ap (λ (b : Bool). pick (b && is_sized (first_value w.0)) (Some (first_value w.0)) None)
       (sym (ne_eqb (count_of 0x05 w.0) 1 (λ e. other (sym is ∙ e))))
       ∙ filled w
 
@@ -73,10 +73,10 @@ module _ (area : List ℕ) where
     size_is = ap (λ (l : Lookup). l.length) found
 
     by_size : (low high : Bool) → leb 1 (first_value tlvs).size ≡ low → leb (first_value tlvs).size 128 ≡ high
-        → pick (low && high) (some (first_value tlvs)) none ≡ id_in area
+        → pick (low && high) (Some (first_value tlvs)) None ≡ id_in area
     by_size low high l h =
-        ap₂ (λ (a b : Bool). pick (a && b) (some (first_value tlvs)) none) (sym l) (sym h)
-        ∙ ap (λ (b : Bool). pick (b && is_sized (first_value tlvs)) (some (first_value tlvs)) none)
+        ap₂ (λ (a b : Bool). pick (a && b) (Some (first_value tlvs)) None) (sym l) (sym h)
+        ∙ ap (λ (b : Bool). pick (b && is_sized (first_value tlvs)) (Some (first_value tlvs)) None)
         (sym (eq-eqb (count_of 0x05 tlvs) 1 one))
         ∙ filled w
 
@@ -114,7 +114,7 @@ module _ (c : After-lookup-found) where
   size = size_is (bytes d) w one c.lookup-found.result c.lookup-found.ensures
 
   sized : (low high : Bool) → leb 1 (first_value w.0).size ≡ low → leb (first_value w.0).size 128 ≡ high
-      → pick (low && high) (some (first_value w.0)) none ≡ id_in (bytes d)
+      → pick (low && high) (Some (first_value w.0)) None ≡ id_in (bytes d)
   sized = by_size (bytes d) w one c.lookup-found.result c.lookup-found.ensures
 
 pub returns-then-size-lt1 : goal.returns-then-size-lt1
@@ -134,7 +134,7 @@ returns-else-long c =
     let e = (goal.at.returns-else-long c).After-lookup-found in
     let s = size e in
     let start = start_is (bytes (d e)) (w e) (one e) e.lookup-found.result e.lookup-found.ensures in
-    ap₂ (λ (x y : ℕ). some (record { start = x; size = y })) start s
+    ap₂ (λ (x y : ℕ). Some (record { start = x; size = y })) start s
     ∙ sized e true true (le-leb 1 (first_value (w e).0).size (omega arith)) (le-leb (first_value (w e).0).size 128 (omega arith))
 
 pub returns-in-IllFormed : goal.returns-in-IllFormed
