@@ -114,8 +114,8 @@ module _ (output text before after : List ℕ) (at behind : ℕ) (type : ℕ) (b
       → length (value_from text type (piece_if there bytes ∷ rest)) < 65536 → length (value_from text type (piece_if there bytes ∷ rest)) ≤ length output
       → Wrote output (text ++ piece_bytes type (piece_if there bytes)) after behind
   next false w e f short room =
-      let None = sym (append-nil text) in
-      record { holds = f ∙ w.holds ∙ ap (λ (l : List ℕ). placed l 0 output) None; place = e ∙ w.place ∙ ap length None }
+      let alone = sym (append-nil text) in
+      record { holds = f ∙ w.holds ∙ ap (λ (l : List ℕ). placed l 0 output) alone; place = e ∙ w.place ∙ ap length alone }
   next true w e f short room =
       let h = from_longer (text ++ tlv_bytes type bytes) (suc type) rest in
       let n = length-append text (tlv_bytes type bytes) in
