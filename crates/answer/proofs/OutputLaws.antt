@@ -1,14 +1,14 @@
 -- Lemmas on what specs/OutputLaws.antt defines.
-use Rattle.std.specs.Prelude.{◌≡◌, refl, Bool, true, false, List, ◌++◌, ℕ, length, take, drop}
+use Rattle.std.specs.Prelude.{◌≡◌, refl, Bool, true, false, List, ◌++◌, ℕ, length, take, drop, Result}
 use Rattle.std.proofs.Common.{sym, ap, ◌∙◌, subst, arith, take_at}
-use Rattle.answer.specs.declared.Written.{Written}
+use Rattle.answer.specs.declared.Fault.{Fault}
 use Rattle.answer.specs.Answers.{WriteAnswer, wrote, refuses, told_written, is_written, output_after}
 use Rattle.answer.specs.OutputLaws.{Promised}
 
 pub not_wrote : (k n : ℕ) {A : Type 0} → refuses k ≡ wrote n → A
 not_wrote k n e = let z : ◌≡◌ {A = ℕ} 0 1 = cc in absurd (omega arith)
 
-module _ (answer : WriteAnswer) (w : Written) (told : told_written w ≡ answer) {b : Bool} (is : b ≡ is_written (told_written w)) where
+module _ (answer : WriteAnswer) (w : Result ℕ Fault) (told : told_written w ≡ answer) {b : Bool} (is : b ≡ is_written (told_written w)) where
   same : b ≡ is_written answer
   same = is ∙ ap is_written told
 
@@ -39,7 +39,7 @@ written_front text before after answer n is size output =
 
 -- ── a writer's promise ──
 pub promised : (answer : WriteAnswer) (text before : List ℕ) (Means : WriteAnswer → Type 0) (Back : WriteAnswer → List ℕ → Type 0) → Means answer
-    → ((after : List ℕ) → after ≡ output_after answer text before → Back answer after) → (w : Written) → told_written w ≡ answer
+    → ((after : List ℕ) → after ≡ output_after answer text before → Back answer after) → (w : Result ℕ Fault) → told_written w ≡ answer
     → (after : List ℕ) → after ≡ output_after answer text before → Promised answer text before Means Back w after
 promised answer text before Means Back means back w e after o =
     (e, o, subst Means (sym e) means, subst (λ (a : WriteAnswer). Back a after) (sym e) (back after o))

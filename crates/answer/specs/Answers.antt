@@ -1,5 +1,5 @@
 -- The readers' and the writers' answers in document 01's terms.
-use Rattle.std.specs.Prelude.{◌≡◌, Bool, true, false, List, [], ◌++◌, ℕ, ◌+◌, eqb, leb, ltb, take, drop}
+use Rattle.std.specs.Prelude.{◌≡◌, Bool, true, false, List, [], ◌++◌, ℕ, ◌+◌, eqb, leb, ltb, take, drop, Result, Ok, Err}
 use Rattle.exact.specs.Claim as Claim
 use Rattle.exact.specs.Claim.{accepted, more, refused}
 use Rattle.exact.specs.Pick.{pick}
@@ -13,8 +13,6 @@ use Rattle.answer.specs.declared.Refusal.TheVariants.{Start, Word, Address, Port
 use Rattle.answer.specs.declared.Verdict.{Verdict}
 use Rattle.answer.specs.declared.Verdict.TheVariants.{Accepted, More, Refused}
 use Rattle.answer.specs.declared.Reading.{Reading}
-use Rattle.answer.specs.declared.Written.{Written}
-use Rattle.answer.specs.declared.Written.TheVariants.{Bytes, Refused as Refuses}
 use Rattle.answer.specs.declared.Fault.{Fault}
 use Rattle.answer.specs.declared.Fault.TheVariants.{Form, Unused, Area, Size, Room, Version, State}
 
@@ -45,9 +43,9 @@ pub data WriteAnswer : Type 0 where
   wrote : ℕ → WriteAnswer
   refuses : ℕ → WriteAnswer
 
-abbrev pub told_written : Written → WriteAnswer
-told_written (Bytes n) = wrote n
-told_written (Refuses fault) = refuses (fault_number fault)
+abbrev pub told_written : Result ℕ Fault → WriteAnswer
+told_written (Ok n) = wrote n
+told_written (Err fault) = refuses (fault_number fault)
 
 -- 13, "exceed 65,535 bytes"; 14, "the output is shorter than what must be written": by the length that is limited, that of all bytes, and the room
 abbrev pub sized_answer : (limited text room : ℕ) → WriteAnswer

@@ -40,7 +40,7 @@ pub struct Reading {
     pub record: Record,
 }
 
-// Why nothing is written: document 01's numbers 10 to 14, and document 02's 20 and 24.
+// Why a writer left the output as it was: document 01's numbers 10 to 14, and document 02's 20 and 24.
 #[derive(Clone, Copy)]
 pub enum Fault {
     Form,
@@ -50,13 +50,6 @@ pub enum Fault {
     Room,
     Version,
     State,
-}
-
-// What a writer answers: how many bytes it wrote, or why it left the output as it was.
-#[derive(Clone, Copy)]
-pub enum Written {
-    Bytes(usize),
-    Refused(Fault),
 }
 
 // Who is calling, as a text line says it: the addresses stand at the front of their arrays, with zeros behind them.
@@ -158,12 +151,12 @@ pub fn refusal_number(refusal: Refusal) -> u8
 }
 
 // Whether a writer has written anything.
-pub fn is_written(written: Written) -> bool
+pub fn is_written(written: Result<usize, Fault>) -> bool
     ensures { result ≡ is_written (told_written written) }
 {
     match written {
-        Written::Bytes(_) => true,
-        Written::Refused(_) => false,
+        Ok(_) => true,
+        Err(_) => false,
     }
 }
 

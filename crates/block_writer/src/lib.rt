@@ -8,7 +8,7 @@ ghost use Rattle.block_writer.specs.Written.{block_placed, written_block, block_
 ghost use Rattle.block_writer.specs.Demand.{Means, ReadsBack};
 
 use address_block_writer::put_addresses;
-use answer::{Fault, Written, is_written};
+use answer::{Fault, is_written};
 use clean::plain;
 use head_writer::put_head;
 use lent::put;
@@ -30,32 +30,32 @@ fn area_fits(kind: Kind, area: &[u8]) -> bool
 
 // What is answered for a block of two parts of these sizes and an output of this size: a block that is too long (13), an output that is too short
 // (14), or the header's length.
-pub fn sized(first: usize, second: usize, room: usize) -> Written
+pub fn sized(first: usize, second: usize, room: usize) -> Result<usize, Fault>
     ensures { told_written result ≡ sized_answer (first + second) (16 + (first + second)) room }
 {
     if 65535 < first {
-        return Written::Refused(Fault::Size);
+        return Err(Fault::Size);
     }
     if 65535 - first < second {
-        return Written::Refused(Fault::Size);
+        return Err(Fault::Size);
     }
     let n = first + second;
     if room < 16 + n {
-        return Written::Refused(Fault::Room);
+        return Err(Fault::Room);
     }
-    Written::Bytes(16 + n)
+    Ok(16 + n)
 }
 
 // What is answered for an area and an output of this size: a record that is not plain (11), an area that may not stand there (12), and then as `sized`.
-fn check(record: Record, area: &[u8], room: usize) -> Written
+fn check(record: Record, area: &[u8], room: usize) -> Result<usize, Fault>
     ensures { told_written result ≡ block_answer «record» area.now room }
 {
     let kind = record.kind;
     if !plain(record) {
-        return Written::Refused(Fault::Unused);
+        return Err(Fault::Unused);
     }
     if !area_fits(kind, area) {
-        return Written::Refused(Fault::Area);
+        return Err(Fault::Area);
     }
     sized(block_length(kind), area.len(), room)
 }
@@ -72,7 +72,7 @@ pub fn put_block(record: Record, size: u16, area: &[u8], out: &mut [u8])
 }
 
 // Writes the record with the TLV area behind its address block: how many bytes, or why the output stays as it was.
-pub fn write_block(record: Record, area: &[u8], out: &mut [u8]) -> Written
+pub fn write_block(record: Record, area: &[u8], out: &mut [u8]) -> Result<usize, Fault>
     ensures { (told_written result ≡ block_answer «record» area.now (length out.old))
         × (out.new ≡ output_after (block_answer «record» area.now (length out.old))
         (written_block «record» area.now) out.old)

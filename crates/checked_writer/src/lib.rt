@@ -6,7 +6,7 @@ ghost use Rattle.answer.specs.Answers.{told_written, output_after};
 ghost use Rattle.checked_writer.specs.Written.{request_test, written_checked, checked_answer, header_text, header_answer};
 ghost use Rattle.checked_writer.specs.Demand.{Means, ReadsBack};
 
-use answer::{Fault, Written, is_written};
+use answer::{Fault, is_written};
 use block_writer::{put_block, sized, write_block};
 use clean::clean;
 use crc::crc32c;
@@ -31,21 +31,21 @@ fn request_fits(kind: Kind, area: &[u8]) -> bool
 
 // What is answered for an area and an output of this size: a record that is not clean (11), an area to which no checksum may be added (12), and then
 // as `sized`, with the seven bytes of the checksum TLV.
-fn check(record: Record, area: &[u8], room: usize) -> Written
+fn check(record: Record, area: &[u8], room: usize) -> Result<usize, Fault>
     ensures { told_written result ≡ checked_answer «record» area.now room }
 {
     let kind = record.kind;
     if !clean(record) {
-        return Written::Refused(Fault::Unused);
+        return Err(Fault::Unused);
     }
     if !request_fits(kind, area) {
-        return Written::Refused(Fault::Area);
+        return Err(Fault::Area);
     }
     sized(block_length(kind) + 7, area.len(), room)
 }
 
 // Writes the record with the TLV area and a checksum TLV behind its address block: how many bytes, or why the output stays as it was.
-pub fn write_checked(record: Record, area: &[u8], out: &mut [u8]) -> Written
+pub fn write_checked(record: Record, area: &[u8], out: &mut [u8]) -> Result<usize, Fault>
     ensures { (told_written result ≡ checked_answer «record» area.now (length out.old))
         × (out.new ≡ output_after (checked_answer «record» area.now (length out.old))
         (written_checked «record» area.now) out.old)
@@ -67,7 +67,7 @@ pub fn write_checked(record: Record, area: &[u8], out: &mut [u8]) -> Written
 }
 
 // Writes a version 2 header, with a checksum on request.
-pub fn write_header(record: Record, area: &[u8], request: bool, out: &mut [u8]) -> Written
+pub fn write_header(record: Record, area: &[u8], request: bool, out: &mut [u8]) -> Result<usize, Fault>
     ensures { (told_written result ≡ header_answer request «record» area.now (length out.old))
         × (out.new ≡ output_after (header_answer request «record» area.now (length out.old))
         (header_text request «record» area.now) out.old) }

@@ -7,7 +7,7 @@ ghost use Rattle.line_text.specs.LineText.{written_line};
 ghost use Rattle.line_writer.specs.Written.{has_form, line_answer};
 ghost use Rattle.line_writer.specs.Demand.{Means, ReadsBack};
 
-use answer::{Fault, Written, is_written};
+use answer::{Fault, is_written};
 use clean::plain;
 use lent::put;
 use line_text::line;
@@ -34,26 +34,26 @@ fn has_form(kind: Kind) -> bool
 
 // What is answered for a line of n bytes and an output of this size: a kind without a form (10), unused bytes or ports that are not zero (11), an output
 // that is too short (14), or the length.
-fn check(record: Record, n: usize, room: usize) -> Written
+fn check(record: Record, n: usize, room: usize) -> Result<usize, Fault>
     requires { n ≡ length (written_line «record») }
     ensures { told_written result ≡ line_answer «record» room }
 {
     let kind = record.kind;
     if !has_form(kind) {
-        return Written::Refused(Fault::Form);
+        return Err(Fault::Form);
     }
     if !plain(record) {
-        return Written::Refused(Fault::Unused);
+        return Err(Fault::Unused);
     }
     if room < n {
-        return Written::Refused(Fault::Room);
+        return Err(Fault::Room);
     }
-    Written::Bytes(n)
+    Ok(n)
 }
 
 // Writes the record's line at the front of the output, and answers its length. Or refuses, in this order, a kind without a form (10), unused bytes or
 // ports that are not zero (11) and an output that is too short (14), and leaves the output as it was.
-pub fn write_line(record: Record, out: &mut [u8]) -> Written
+pub fn write_line(record: Record, out: &mut [u8]) -> Result<usize, Fault>
     ensures { (told_written result ≡ line_answer «record» (length out.old))
         × (out.new ≡ output_after (line_answer «record» (length out.old)) (written_line «record») out.old)
         × Means «record» (length out.old) (told_written result)

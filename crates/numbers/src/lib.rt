@@ -10,7 +10,7 @@ ghost use Rattle.stored_form.specs.Converting.{told_converted};
 ghost use Rattle.lookup.specs.Lookup.{told_finding};
 ghost use Rattle.numbers.specs.Numbers.{numbers_size, told_of, room_beside, written_number, numbers_after, load_number, lookup_number};
 
-use answer::{Verdict, Written, fault_number};
+use answer::{Fault, Verdict, fault_number};
 use lookup::Answer;
 use record::Kind;
 use stored_form::{Converted, Outcome, flaw_number};
@@ -93,15 +93,15 @@ pub fn room_beside(numbers: usize, output: usize) -> usize
 }
 
 // Tells what a writer has written, the length where the numbers have room.
-pub fn tell_written(written: Written, numbers: &mut [u64]) -> u32
+pub fn tell_written(written: Result<usize, Fault>, numbers: &mut [u64]) -> u32
     ensures { (result ≡ written_number (told_written written)) × (numbers.new ≡ numbers_after (told_written written) numbers.old) }
 {
     match written {
-        Written::Bytes(n) => {
+        Ok(n) => {
             put_numbers(numbers, n as u64, 0, 0, 0);
             0
         }
-        Written::Refused(fault) => fault_number(fault) as u32,
+        Err(fault) => fault_number(fault) as u32,
     }
 }
 

@@ -7,7 +7,7 @@ ghost use Rattle.ssl_writer.specs.Written.{pieces_of};
 ghost use Rattle.ssl_writer.specs.Steps.{size_if, size_all, answer_by, piece_placed, piece_behind};
 ghost use Rattle.ssl_writer.specs.Writes.{Writes};
 
-use answer::{Fault, Written, is_written};
+use answer::{Fault, is_written};
 use lent::{least, put};
 use network32::network_bytes;
 use ssl_reader::lacks_version;
@@ -61,21 +61,21 @@ fn value_size(present: Present, sizes: Sizes) -> usize
 
 // What is answered: a client that must have a version and has none (20), a value that is too long (13), an output that is too short (14), or the
 // value's length.
-fn check(client: u8, present: Present, sizes: Sizes, room: usize) -> Written
+fn check(client: u8, present: Present, sizes: Sizes, room: usize) -> Result<usize, Fault>
     ensures { told_written result ≡ answer_by client present sizes room }
 {
     let version = present.version;
     if lacks_version(client, !version) {
-        return Written::Refused(Fault::Version);
+        return Err(Fault::Version);
     }
     let size = value_size(present, sizes);
     if 65535 < size {
-        return Written::Refused(Fault::Size);
+        return Err(Fault::Size);
     }
     if room < size {
-        return Written::Refused(Fault::Room);
+        return Err(Fault::Room);
     }
-    Written::Bytes(size)
+    Ok(size)
 }
 
 // Puts a piece, if it is there, at this place of the output as a sub-TLV of this type, and answers the place behind it.
@@ -102,7 +102,7 @@ pub fn write_ssl(
     signature: &[u8],
     key: &[u8],
     out: &mut [u8],
-) -> Written
+) -> Result<usize, Fault>
     ensures { Writes client verify (pieces_of present version.now common_name.now cipher.now signature.now key.now) out.old (told_written result) out.new }
 {
     let sizes = Sizes {

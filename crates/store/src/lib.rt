@@ -7,7 +7,7 @@ ghost use Rattle.stored_form.specs.Stored.{stored, store_answer};
 ghost use Rattle.stored_form.specs.Meaning.{Means, LoadsBack};
 
 use address_block_writer::put_addresses;
-use answer::{Fault, Written, is_written};
+use answer::{Fault, is_written};
 use clean::clean;
 use kind_code::{code_of, state_byte};
 use lent::put;
@@ -16,26 +16,26 @@ use stored_form::{StoredVersion, head_length, keeps, version_byte};
 
 // What is answered for an output of this size: a record that is not clean (11), a state that the version cannot say (24), an output that is too short (14),
 // or the length.
-fn check(record: Record, version: StoredVersion, room: usize) -> Written
+fn check(record: Record, version: StoredVersion, room: usize) -> Result<usize, Fault>
     ensures { told_written result ≡ store_answer version «record» room }
 {
     let kind = record.kind;
     let checksum = record.checksum;
     if !clean(record) {
-        return Written::Refused(Fault::Unused);
+        return Err(Fault::Unused);
     }
     if !keeps(version, checksum) {
-        return Written::Refused(Fault::State);
+        return Err(Fault::State);
     }
     let n = head_length(version) + block_length(kind);
     if room < n {
-        return Written::Refused(Fault::Room);
+        return Err(Fault::Room);
     }
-    Written::Bytes(n)
+    Ok(n)
 }
 
 // Writes the record in a version: how many bytes, or why the output stays as it was.
-pub fn store(record: Record, version: StoredVersion, out: &mut [u8]) -> Written
+pub fn store(record: Record, version: StoredVersion, out: &mut [u8]) -> Result<usize, Fault>
     ensures { (told_written result ≡ store_answer version «record» (length out.old))
         × (out.new ≡ output_after (store_answer version «record» (length out.old)) (stored version «record») out.old)
         × Means version «record» (length out.old) (told_written result)

@@ -6,7 +6,7 @@ ghost use Rattle.std.specs.Prelude.{◌≡◌};
 ghost use Rattle.stored_form.specs.Heads.{version_byte, head_length, keeps_test};
 ghost use Rattle.stored_form.specs.Loading.{flaw_number};
 
-use answer::Written;
+use answer::Fault;
 use clean::is_absent;
 use record::{Checksum, Record};
 
@@ -74,7 +74,7 @@ pub struct Loaded {
 // What a conversion answers: as the writer of the other version does, or why its input is no stored form.
 #[derive(Clone, Copy)]
 pub enum Converted {
-    Stored(Written),
+    Stored(Result<usize, Fault>),
     Invalid(Flaw),
 }
 

@@ -6,12 +6,13 @@ use Prim.Native.Nat.{ℕ, ◌≤◌}
 use native.Mathlib.Omega.{arith}
 use lib.Dec.{leb}
 use lib.ListN.{length, take, drop, take-append-drop, length-take}
+use Rattle.std.specs.Prelude.{Result}
 use lib.Seq.{drop-append-le, length-take-le}
 use borrow.Author.Tests.{eq-eqb, ne_eqb, leb-true}
 use Rattle.exact.specs.Pick.{pick, pick_by}
 use Rattle.record.specs.declared.Checksum.{Checksum}
 use Rattle.record.specs.declared.Record.{Record}
-use Rattle.answer.specs.declared.Written.{Written}
+use Rattle.answer.specs.declared.Fault.{Fault}
 use Rattle.answer.specs.Answers.{WriteAnswer, wrote, refuses, told_written, output_after}
 use Rattle.stored_form.specs.declared.StoredVersion.{StoredVersion}
 use Rattle.stored_form.specs.Heads.{keeps_test}
@@ -87,7 +88,7 @@ module _ (answer_for : Record → ℕ → WriteAnswer) (text : Record → List �
         tells = ap (λ (w : WriteAnswer). numbers_after w numbers) is;
       })
 
-  pub passed_on : {x : Asked} (within : (r : Record) (m : ℕ) → Within m (answer_for r m)) (w : Written) (beside : ℕ) (part : List ℕ) {answer : ℕ} {n : List ℕ}
+  pub passed_on : {x : Asked} (within : (r : Record) (m : ℕ) → Within m (answer_for r m)) (w : Result ℕ Fault) (beside : ℕ) (part : List ℕ) {answer : ℕ} {n : List ℕ}
       → a ≡ x → a.number ≡ 0 → beside ≡ room
       → told_written w ≡ answer_for a.«record» (length (take beside output))
       → part ≡ output_after (answer_for a.«record» (length (take beside output))) (text a.«record») (take beside output)

@@ -1,14 +1,15 @@
 -- Each writer by the request.
 use Rattle.std.proofs.Common.{◌≡◌, sym, ap, ◌∙◌, Bool, List, ℕ, length}
+use Rattle.std.specs.Prelude.{Result}
 use Rattle.record.specs.declared.Record.{Record}
-use Rattle.answer.specs.declared.Written.{Written}
+use Rattle.answer.specs.declared.Fault.{Fault}
 use Rattle.answer.specs.Answers.{told_written, output_after}
 use Rattle.checked_writer.specs.Written.{header_text, header_answer}
 use Rattle.checked_writer.proofs.write_header.Goals.{After-write_block, After-write_checked}
 use Rattle.checked_writer.proofs.write_header.Goals as goal
 
 -- what the writer of one request leaves is what is promised for it
-by_request : (request b : Bool) → request ≡ b → (r : Record) (area before after : List ℕ) (w : Written)
+by_request : (request b : Bool) → request ≡ b → (r : Record) (area before after : List ℕ) (w : Result ℕ Fault)
     → told_written w ≡ header_answer b r area (length before) → after ≡ output_after (header_answer b r area (length before)) (header_text b r area) before
     → (told_written w ≡ header_answer request r area (length before))
     × (after ≡ output_after (header_answer request r area (length before)) (header_text request r area) before)
