@@ -6,7 +6,6 @@ use Rattle.exact.specs.Field.{shift, after}
 use Rattle.exact.specs.Parser.{Parser}
 use Rattle.exact.proofs.Parser.{tail_all}
 use Rattle.exact.proofs.Stage.{on, stage_accepted}
-use Rattle.exact.specs.Scans.{told}
 use Rattle.exact.specs.declared.Scan.{Scan}
 use Rattle.header.specs.Header.{Header}
 use Rattle.fields.specs.LineFields.{lined, Headers}
@@ -19,9 +18,9 @@ pub sees_as : {s : List ℕ} {v w : Verdict Header} {x : Seen} → Sees s v x �
 sees_as {s} {x = x} a e = subst (λ (v : Verdict Header). Sees s v x) e a
 
 -- what a scan of the bytes from `at` on found, as a verdict on them
-pub said : (k m : ℕ) (judge : List ℕ → Verdict ℕ) (s : List ℕ) (at : ℕ) {r x : Scan} → r ≡ x
-    → told k m r ≡ judge (take (length s - at) (drop at s)) → told k m x ≡ judge (drop at s)
-said k m judge s at e h = ap (told k m) (sym e) ∙ h ∙ ap judge (tail_all at s)
+pub said : {A B : Type 0} (told : Scan A → Verdict B) (judge : List ℕ → Verdict B) (s : List ℕ) (at : ℕ) {r x : Scan A} → r ≡ x
+    → told r ≡ judge (take (length s - at) (drop at s)) → told x ≡ judge (drop at s)
+said told judge s at e h = ap told (sym e) ∙ h ∙ ap judge (tail_all at s)
 
 -- no byte is left at `at`
 pub as_end : (v : List ℕ → Verdict Header) (n : ℕ) {s : List ℕ} {at : ℕ} {x : Seen} → more n ≡ v [] → length s ≤ at → Sees s (more n) x

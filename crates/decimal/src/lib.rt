@@ -38,7 +38,7 @@ fn grow(n: u32, c: u8, bound: u32) -> Grown
 
 // A decimal number up to the bound, with no leading zero, that the byte end ends. An end that is a digit ends the number where it
 // first stands behind another digit.
-pub fn decimal(s: &[u8], bound: u32, end: u8) -> Scan
+pub fn decimal(s: &[u8], bound: u32, end: u8) -> Scan<u32>
     ensures verdict { (k m : ℕ) → told k m result ≡ decimal_verdict k m bound end s.now }
     ensures claim { (k : ℕ) → (Digit end → ⊥) → Claim (Ended (Decimal bound) end) (λ u. k) (told k 0 result) s.now }
 {

@@ -6,14 +6,14 @@ ghost use Rattle.std.specs.Prelude.{◌≡◌, ℕ};
 ghost use Rattle.exact.specs.Claim.{Claim};
 ghost use Rattle.exact.specs.Valueless.{Valueless};
 ghost use Rattle.exact.specs.Network.{number as number_of};
-ghost use Rattle.exact.specs.Scans.{told};
+ghost use Rattle.exact.specs.Scans.{present};
 ghost use Rattle.exact.specs.Literal.{Common, literal as literal_of};
 
-// What a scan of a field finds.
-#[derive(Drop)]
-pub enum Scan {
+// What a scan of a field finds. A field that says nothing but that it is there has the value ().
+#[derive(Clone, Copy)]
+pub enum Scan<T> {
     // The field's value, and how many bytes it has with its end.
-    Accepted(u32, usize),
+    Accepted(T, usize),
     // How few further bytes could finish the field.
     More(usize),
     // The place of the byte that rules the field out.
@@ -36,14 +36,14 @@ fn common(s: &[u8], w: &[u8]) -> usize
 }
 
 // The bytes of w, one after the other; where w is empty that is no byte, accepted at once.
-pub fn literal(s: &[u8], w: &[u8]) -> Scan
-    ensures verdict { (k m : ℕ) → told k m result ≡ literal_of k m 0 w.now s.now }
-    ensures claim { (k : ℕ) → Claim (Valueless (λ f. f ≡ w.now)) (λ u. k) (told k 0 result) s.now }
+pub fn literal(s: &[u8], w: &[u8]) -> Scan<()>
+    ensures verdict { (k m : ℕ) → present k m result ≡ literal_of k m 0 w.now s.now }
+    ensures claim { (k : ℕ) → Claim (Valueless (λ f. f ≡ w.now)) (λ u. k) (present k 0 result) s.now }
 {
     let n = common(s, w);
     let whole = n == w.len();
     if whole {
-        return Scan::Accepted(0, n);
+        return Scan::Accepted((), n);
     }
     if n == s.len() {
         return Scan::More(w.len() - n);

@@ -1,3 +1,2 @@
 pub mod Ip4
-pub mod Octets
 pub mod Ip4Verdict

@@ -69,7 +69,7 @@ module _ {end : ℕ} {s : List ℕ} {i : ℕ} {g : List ℕ} where
   behind_other : {n : Gathered} → i < length s → (get_or s i 0 ≡ 58 → ⊥) → (get_or s i 0 ≡ end → ⊥) → From end s i (behind n) (scan.Refused i) g
   behind_other {n} h a b = refuses h (follow_other end (get_or s i 0) n a b)
 
-  behind_ends : {n : Gathered} {t : Scan} → i < length s → (get_or s i 0 ≡ 58 → ⊥) → get_or s i 0 ≡ end → Closed i n t g
+  behind_ends : {n : Gathered} {t : Scan (Unit {0})} → i < length s → (get_or s i 0 ≡ 58 → ⊥) → get_or s i 0 ≡ end → Closed i n t g
       → From end s i (behind n) t g
   behind_ends {n} h a b f = closes h (follow_ends end (get_or s i 0) n a b) f
 
@@ -77,7 +77,7 @@ module _ {end : ℕ} {s : List ℕ} {i : ℕ} {g : List ℕ} where
     behind_full : i < length s → get_or s i 0 ≡ 58 → 8 ≤ x.count → From end s i (behind (gathered_of x)) (scan.Refused i) g
     behind_full h a n = refuses h (follow_full end (get_or s i 0) (gathered_of x) a (is_full x sized n))
 
-    behind-colon : {t : Scan} → i < length s → get_or s i 0 ≡ 58 → x.count < 8 → From end s (i + 1) (colon (gathered_of x)) t g
+    behind-colon : {t : Scan (Unit {0})} → i < length s → get_or s i 0 ≡ 58 → x.count < 8 → From end s (i + 1) (colon (gathered_of x)) t g
         → From end s i (behind (gathered_of x)) t g
     behind-colon h a n f = passes h (follow_more end (get_or s i 0) (gathered_of x) a (has_room x sized n)) f
 
@@ -85,7 +85,7 @@ module _ {end : ℕ} {s : List ℕ} {i : ℕ} {g : List ℕ} where
     colon_lone : i < length s → (get_or s i 0 ≡ 58 → ⊥) → x.count ≡ 0 → From end s i (colon (gathered_of x)) (scan.Refused i) g
     colon_lone h a n = refuses h (lone_step end (get_or s i 0) (gathered_of x) (none_seen x sized n) a)
 
-    colon_group : {t : Scan} → i < length s → (get_or s i 0 ≡ 58 → ⊥) → (x.count ≡ 0 → ⊥) → From end s i (digits (gathered_of x) 0 0) t g
+    colon_group : {t : Scan (Unit {0})} → i < length s → (get_or s i 0 ≡ 58 → ⊥) → (x.count ≡ 0 → ⊥) → From end s i (digits (gathered_of x) 0 0) t g
         → From end s i (colon (gathered_of x)) t g
     colon_group h a n f =
         let b = count-length x sized in
@@ -94,7 +94,7 @@ module _ {end : ℕ} {s : List ℕ} {i : ℕ} {g : List ℕ} where
     colon_twice : i < length s → get_or s i 0 ≡ 58 → 0 < x.gap → From end s i (colon (gathered_of x)) (scan.Refused i) g
     colon_twice h a z = refuses h (twice_step end (get_or s i 0) x.gap (held x) z a)
 
-    colon-gap : {t : Scan} → i < length s → get_or s i 0 ≡ 58 → x.gap ≤ 0 → From end s (i + 1) (gap (held x)) t g
+    colon-gap : {t : Scan (Unit {0})} → i < length s → get_or s i 0 ≡ 58 → x.gap ≤ 0 → From end s (i + 1) (gap (held x)) t g
         → From end s i (colon (gathered_of x)) t g
     colon-gap h a z f = passes h (gap_step end (get_or s i 0) x.gap (held x) (omega arith) a) f
 
@@ -103,10 +103,10 @@ module _ {end : ℕ} {s : List ℕ} {i : ℕ} {g : List ℕ} where
     gap_full h a n = let b = count-length x sized in refuses h (full_step end (get_or s i 0) (held x) a (omega arith))
 
     module _ (few : x.count < 8) where
-      gap_ends : {t : Scan} → i < length s → get_or s i 0 ≡ end → Closed i (gathered_of (opened x)) t g → From end s i (gap (held x)) t g
+      gap_ends : {t : Scan (Unit {0})} → i < length s → get_or s i 0 ≡ end → Closed i (gathered_of (opened x)) t g → From end s i (gap (held x)) t g
       gap_ends h a f = closes h (end_step end (get_or s i 0) (held x) a ∙ ap finish (sym (gap_seen x sized few))) f
 
-      gap_group : {t : Scan} → i < length s → (get_or s i 0 ≡ end → ⊥) → x.count < 7 → From end s i (digits (gathered_of (opened x)) 0 0) t g
+      gap_group : {t : Scan (Unit {0})} → i < length s → (get_or s i 0 ≡ end → ⊥) → x.count < 7 → From end s i (digits (gathered_of (opened x)) 0 0) t g
           → From end s i (gap (held x)) t g
       gap_group h a n f =
           let b = count-length x sized in
@@ -126,13 +126,13 @@ module _ (end : ℕ) (s : List ℕ) (x : Partial) (low : ℕ) where
   Leads q i (More n) = (g : List ℕ) → From end s i q (scan.More n) g
   Leads q i (Refused at) = (g : List ℕ) → From end s i q (scan.Refused at) g
   Leads q i (End at count gaps) =
-      Sized (counted count gaps) × (at < length s) × ((t : Scan) (g : List ℕ) → Closed at (gathered_of (counted count gaps)) t g → From end s i q t g)
+      Sized (counted count gaps) × (at < length s) × ((t : Scan (Unit {0})) (g : List ℕ) → Closed at (gathered_of (counted count gaps)) t g → From end s i q t g)
   Leads q i (Group at count gaps) =
       Sized (counted count gaps) × (count < 8) × (low ≤ at) × (at < length s)
-      × ((t : Scan) (g : List ℕ) → From end s at (digits (gathered_of (counted count gaps)) 0 0) t g → From end s i q t g)
+      × ((t : Scan (Unit {0})) (g : List ℕ) → From end s at (digits (gathered_of (counted count gaps)) 0 0) t g → From end s i q t g)
 
   -- one byte later
-  behind_byte : {q p : State} {i j : ℕ} → ((t : Scan) (g : List ℕ) → From end s j p t g → From end s i q t g) → (r : Part) → Leads p j r → Leads q i r
+  behind_byte : {q p : State} {i j : ℕ} → ((t : Scan (Unit {0})) (g : List ℕ) → From end s j p t g → From end s i q t g) → (r : Part) → Leads p j r → Leads q i r
   behind_byte pass (More n) l = λ g. pass _ g (l g)
   behind_byte pass (Refused at) l = λ g. pass _ g (l g)
   behind_byte pass (End at count gaps) l = (l.0, l.1, λ t g f. pass t g (l.2 t g f))

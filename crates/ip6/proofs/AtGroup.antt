@@ -53,12 +53,12 @@ module _ {end : ℕ} {s : List ℕ} {i : ℕ} {g : List ℕ} where
   group_long {p} {n} {v} h a z = refuses h (inside_long end (get_or s i 0) p n v a z)
 
   -- one digit more
-  pub group_digit : {p : Gathered} {n v : ℕ} {t : Scan} → i < length s → hex_of (get_or s i 0) < 16 → n < 4
+  pub group_digit : {p : Gathered} {n v : ℕ} {t : Scan (Unit {0})} → i < length s → hex_of (get_or s i 0) < 16 → n < 4
       → From end s (i + 1) (digits p (n + 1) (v * 16 + hex_of (get_or s i 0))) t g → From end s i (digits p n v) t g
   group_digit {p} {n} {v} h a few f = passes h (inside_digit end p n v (get_or s i 0) a few) f
 
   -- the group has ended
-  pub group_ends : {x : Partial} {n v : ℕ} {t : Scan} → Sized x → x.count < 8 → i < length s → hex_of (get_or s i 0) ≡ 16 → (n ≡ 0 → ⊥)
+  pub group_ends : {x : Partial} {n v : ℕ} {t : Scan (Unit {0})} → Sized x → x.count < 8 → i < length s → hex_of (get_or s i 0) ≡ 16 → (n ≡ 0 → ⊥)
       → From end s i (behind (gathered_of (pushed x v))) t g → From end s i (digits (gathered_of x) n v) t g
   group_ends {x} {n} {v} sized few h a some f =
       likewise h

@@ -34,14 +34,14 @@ module _ (end : ℕ) (s : List ℕ) (i k m : ℕ) where
 module _ {end : ℕ} {s : List ℕ} {i : ℕ} {q : State} {g : List ℕ} where
   pub wants : {n : ℕ} → n ≡ least q → length s ≤ i → From end s i q (More n) g
   wants e h =
-      record { verdict = λ k m. ap (λ (n : ℕ). more (n + m)) e ∙ sym (from_end k (step end) (least_address m) s i q h); bare = tt }
+      record { verdict = λ k m. ap (λ (n : ℕ). more (n + m)) e ∙ sym (from_end k (step end) (least_address m) s i q h) }
 
   pub refuses : i < length s → step end q (get_or s i 0) ≡ dead → From end s i q (Refused i) g
-  refuses h e = record { verdict = λ k m. sym (from-dead k (step end) (least_address m) s i q h e); bare = tt }
+  refuses h e = record { verdict = λ k m. sym (from-dead k (step end) (least_address m) s i q h e) }
 
-  module _ {t : Scan} where
+  module _ {t : Scan (Unit {0})} where
     pub passes : {p : State} → i < length s → step end q (get_or s i 0) ≡ go p → From end s (i + 1) p t g → From end s i q t g
-    passes {p} h e f = record { verdict = λ k m. f.verdict k m ∙ sym (from-go k (step end) (least_address m) s i q p h e); bare = f.bare }
+    passes {p} h e f = record { verdict = λ k m. f.verdict k m ∙ sym (from-go k (step end) (least_address m) s i q p h e) }
 
     -- a byte that two states treat alike
     pub likewise : {p : State} → i < length s → step end q (get_or s i 0) ≡ step end p (get_or s i 0) → From end s i p t g → From end s i q t g
@@ -51,7 +51,6 @@ module _ {end : ℕ} {s : List ℕ} {i : ℕ} {q : State} {g : List ℕ} where
               f.verdict k m
               ∙ by_move end s i k m p (step end p (get_or s i 0)) h refl
               ∙ sym (by_move end s i k m q (step end p (get_or s i 0)) h e);
-          bare = f.bare;
         }
 
     -- the byte that ends the address
@@ -59,5 +58,4 @@ module _ {end : ℕ} {s : List ℕ} {i : ℕ} {q : State} {g : List ℕ} where
     closes {n} h e f =
         record {
           verdict = λ k m. f.verdict k m ∙ closed-moves end s i k m n ∙ sym (by_move end s i k m q (finish n) h e);
-          bare = f.bare;
         }

@@ -8,21 +8,14 @@ use Rattle.ip6.specs.Machine.{Gathered, State, finish, least_address, step}
 use Rattle.exact.specs.Scans.{heard}
 
 -- the answer that a number and a place say: 0 accepted, with the address's length; 1 more, with the fewest bytes; from 2 on refused at the place
-abbrev pub scan_of : ℕ → ℕ → Scan
-scan_of zero place = Accepted 0 place
+abbrev pub scan_of : ℕ → ℕ → Scan (Unit {0})
+scan_of zero place = Accepted tt place
 scan_of (suc zero) place = More place
 scan_of (suc (suc n)) place = Refused place
 
--- the number beside an accepted address is 0
-abbrev pub Bare : Scan → Type 0
-Bare (Accepted v n) = v ≡ 0
-Bare (More n) = Unit {0}
-Bare (Refused p) = Unit {0}
-
 -- the machine's answer on the bytes from the place i on, in the state q
-pub record From (end : ℕ) (s : List ℕ) (i : ℕ) (q : State) (t : Scan) (groups : List ℕ) : Type 0 where
+pub record From (end : ℕ) (s : List ℕ) (i : ℕ) (q : State) (t : Scan (Unit {0})) (groups : List ℕ) : Type 0 where
   pub verdict : (k m : ℕ) → heard k m t groups ≡ from k (step end) (least_address m) s i q
-  pub bare : Bare t
 
 -- the verdict of a move that ends the reading at the place i
 abbrev pub closed : ℕ → ℕ → ℕ → Move State (List ℕ) → Verdict (List ℕ)
@@ -31,6 +24,5 @@ closed k m i (done vs) = accepted vs (i + 1)
 closed k m i dead = refused k i
 
 -- the machine's answer where the address ends at the place i, behind the groups n
-pub record Closed (i : ℕ) (n : Gathered) (t : Scan) (groups : List ℕ) : Type 0 where
+pub record Closed (i : ℕ) (n : Gathered) (t : Scan (Unit {0})) (groups : List ℕ) : Type 0 where
   pub verdict : (k m : ℕ) → heard k m t groups ≡ closed k m i (finish n)
-  pub bare : Bare t

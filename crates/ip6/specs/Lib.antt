@@ -1,6 +1,5 @@
 pub mod Address
 pub mod Bounds
-pub mod ScannedAddress
 pub mod Machine
 pub mod Steps
 pub mod Read

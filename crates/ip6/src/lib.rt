@@ -9,22 +9,15 @@ ghost use Rattle.std.specs.Prelude.{◌≡◌, ℕ, ◌+◌, ◌^◌, ◌<◌, l
 ghost use Rattle.exact.specs.Claim.{Claim};
 ghost use Rattle.exact.specs.Ended.{Ended};
 ghost use Rattle.exact.specs.Machine.{run};
+ghost use Rattle.exact.specs.Scans.{told};
 ghost use Rattle.ip6.specs.Address.{Address, Ending};
 ghost use Rattle.ip6.specs.Machine.{start, digits, behind, least_address, step};
-ghost use Rattle.ip6.specs.ScannedAddress.{told_address, Unused};
 ghost use Rattle.ip6.specs.Partial.{Sized, sofar, gathered_of, spread};
 ghost use Rattle.ip6.specs.Answer.{scan_of, From, Closed};
 
 use colon_part::{Part, colon_part, least_behind};
 use exact::Scan;
 use hex_digits::hex_value;
-
-// What a scan of an address finds. The groups are those of an accepted address, and 0 where none is accepted.
-#[derive(Drop)]
-pub struct Scanned {
-    pub scan: Scan,
-    pub groups: [u16; 8],
-}
 
 // Zeros for all that "::" stands for: the groups behind it move to the end, the last one first.
 fn spread_out(groups: &mut [u16; 8], count: usize, gap: usize)
@@ -161,23 +154,18 @@ fn begun(s: &[u8], end: u8, groups: &mut [u16; 8], place: &mut usize) -> u8
 
 // An address that the byte end ends. A hex digit or a colon is no such byte: as end it ends an address right behind "::" only, and is part
 // of the address elsewhere.
-pub fn address(s: &[u8], end: u8) -> Scanned
-    ensures verdict { (k m : ℕ) → told_address k m result ≡ run k (step end) (least_address m) s.now start }
-    ensures unused { Unused result.scan result.groups }
-    ensures claim { (k : ℕ) → Ending end → Claim (Ended Address end) (λ u. k) (told_address k 0 result) s.now }
+pub fn address(s: &[u8], end: u8) -> Scan<[u16; 8]>
+    ensures verdict { (k m : ℕ) → told k m result ≡ run k (step end) (least_address m) s.now start }
+    ensures claim { (k : ℕ) → Ending end → Claim (Ended Address end) (λ u. k) (told k 0 result) s.now }
 {
     let mut groups = [0u16; 8];
     let mut place: usize = 0;
     let answer = begun(s, end, &mut groups, &mut place);
     if answer == ACCEPTED {
-        let scan = Scan::Accepted(0, place);
-        return Scanned { scan, groups };
+        return Scan::Accepted(groups, place);
     }
-    let groups = [0; 8];
     if answer == MORE {
-        let scan = Scan::More(place);
-        return Scanned { scan, groups };
+        return Scan::More(place);
     }
-    let scan = Scan::Refused(place);
-    Scanned { scan, groups }
+    Scan::Refused(place)
 }

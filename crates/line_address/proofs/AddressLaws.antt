@@ -8,11 +8,11 @@ use Rattle.exact.specs.Claim.{Verdict, accepted}
 use Rattle.exact.specs.Field.{Exact, flat, after}
 use Rattle.exact.specs.declared.Scan.{Scan}
 use Rattle.exact.specs.declared.Scan.TheVariants.{Accepted, More, Refused}
-use Rattle.exact.specs.Scans.{heard, ZeroUnless}
+use Rattle.exact.specs.Scans.{told}
 use Rattle.ip6.specs.Bounds.{address_bounds}
 use Rattle.header.specs.Line.{group_bytes}
 use Rattle.fields.specs.Exactness.{address4, groups, address6}
-use Rattle.line_address.specs.Families.{told_bytes, padded, Unused}
+use Rattle.line_address.specs.Families.{told_bytes, padded}
 
 -- an accepted IPv4 address has four octets
 octets_four : (m : ℕ) (s octets : List ℕ) (n : ℕ) → accepted octets n ≡ (address4 m).verdict s → length octets ≡ 4
@@ -35,16 +35,9 @@ four (a ∷ b ∷ c ∷ []) h = absurd (omega arith)
 four (a ∷ b ∷ c ∷ d ∷ []) h = refl
 four (a ∷ b ∷ c ∷ d ∷ e ∷ o) h = absurd (omega arith)
 
-pub told4 : (m : ℕ) (scan : Scan) (octets s : List ℕ) → heard 3 m scan octets ≡ (address4 m).verdict s
-    → told_bytes 4 m scan (octet_bytes octets) ≡ (address4 m).verdict s
-told4 m (Accepted v n) octets s e = ap (λ (o : List ℕ). accepted o n) (four octets (octets_four m s octets n e)) ∙ e
-told4 m (More n) octets s e = e
-told4 m (Refused p) octets s e = e
-
-pub unused4 : (scan : Scan) (octets : List ℕ) → ZeroUnless 4 scan octets → Unused 4 scan (octet_bytes octets)
-unused4 (Accepted v n) octets z = (z, refl)
-unused4 (More n) octets z = ap octet_bytes z
-unused4 (Refused p) octets z = ap octet_bytes z
+pub accepted4 : (m : ℕ) (octets s : List ℕ) (n : ℕ) → accepted octets n ≡ (address4 m).verdict s
+    → accepted (take 4 (octet_bytes octets)) n ≡ (address4 m).verdict s
+accepted4 m octets s n e = ap (λ (o : List ℕ). accepted o n) (four octets (octets_four m s octets n e)) ∙ e
 
 -- an accepted IPv6 address has eight groups
 groups_eight : (m : ℕ) (s gs : List ℕ) (n : ℕ) → accepted gs n ≡ (groups m).verdict s → length gs ≡ 8
@@ -79,19 +72,22 @@ eight_bytes g h e0 e1 e2 e3 e4 e5 e6 e7 e8 e9 e10 e11 e12 e13 e14 e15 = cc (eigh
 take_sixteen : (g : List ℕ) → length g ≡ 8 → take 16 (group_bytes g) ≡ group_bytes g
 take_sixteen g h = ap (take 16) (sym (eight g h)) ∙ eight g h
 
-pub told6 : (m : ℕ) (scan : Scan) (gs s : List ℕ) → heard 3 m scan gs ≡ (groups m).verdict s
-    → told_bytes 16 m scan (group_bytes gs) ≡ (address6 m).verdict s
-told6 m (Accepted v n) gs s e =
+abbrev bytes_of : Scan (List ℕ) → Scan (List ℕ)
+bytes_of (Accepted gs n) = Accepted (group_bytes gs) n
+bytes_of (More n) = More n
+bytes_of (Refused p) = Refused p
+
+pub told6 : (m : ℕ) (scan : Scan (List ℕ)) (s : List ℕ) → told 3 m scan ≡ (groups m).verdict s
+    → told_bytes 16 m (bytes_of scan) ≡ (address6 m).verdict s
+told6 m (Accepted gs n) s e =
     ap (λ (b : List ℕ). accepted b n) (take_sixteen gs (groups_eight m s gs n e))
     ∙ ap (λ (j : ℕ). accepted (group_bytes gs) j) zero_more
     ∙ ap (λ (w : Verdict (List ℕ)). after w (λ a r. accepted (group_bytes a) 0) s) e
   where
     zero_more : n ≡ n + 0
     zero_more = omega arith
-told6 m (More n) gs s e = ap (λ (w : Verdict (List ℕ)). after w (λ a r. accepted (group_bytes a) 0) s) e
-told6 m (Refused p) gs s e = ap (λ (w : Verdict (List ℕ)). after w (λ a r. accepted (group_bytes a) 0) s) e
+told6 m (More n) s e = ap (λ (w : Verdict (List ℕ)). after w (λ a r. accepted (group_bytes a) 0) s) e
+told6 m (Refused p) s e = ap (λ (w : Verdict (List ℕ)). after w (λ a r. accepted (group_bytes a) 0) s) e
 
-pub unused6 : (scan : Scan) (gs s : List ℕ) → heard 3 0 scan gs ≡ (groups 0).verdict s → ZeroUnless 8 scan gs → Unused 16 scan (group_bytes gs)
-unused6 (Accepted v n) gs s e z = (z, subst (λ (b : List ℕ). b ≡ padded (take 16 b)) (eight gs (groups_eight 0 s gs n e)) refl)
-unused6 (More n) gs s e z = ap group_bytes z
-unused6 (Refused p) gs s e z = ap group_bytes z
+pub padded6 : (gs s : List ℕ) (n : ℕ) → accepted gs n ≡ (groups 0).verdict s → group_bytes gs ≡ padded (take 16 (group_bytes gs))
+padded6 gs s n e = subst (λ (b : List ℕ). b ≡ padded (take 16 b)) (eight gs (groups_eight 0 s gs n e)) refl

@@ -1,5 +1,5 @@
 -- What the families of a TCP line differ in, six being true for TCP6, and the bytes of an address as a caller holds them.
-use Rattle.std.specs.Prelude.{◌≡◌, Bool, true, false, List, ℕ, ◌+◌, take, replicate}
+use Rattle.std.specs.Prelude.{◌≡◌, Bool, true, false, List, ℕ, ◌+◌, take}
 use Rattle.exact.specs.Claim.{Verdict, accepted, more, refused}
 use Rattle.exact.specs.declared.Scan.{Scan}
 use Rattle.exact.specs.declared.Scan.TheVariants.{Accepted, More, Refused}
@@ -28,17 +28,17 @@ shortest_address true = 3
 shortest_address false = 8
 
 -- the bytes of an address, in the first n of an array; m is what is asked behind it
-abbrev pub told_bytes : (n m : ℕ) → Scan → List ℕ → Verdict (List ℕ)
-told_bytes n m (Accepted v size) bytes = accepted (take n bytes) size
-told_bytes n m (More least) bytes = more (least + m)
-told_bytes n m (Refused p) bytes = refused 3 p
+abbrev pub told_bytes : (n m : ℕ) → Scan (List ℕ) → Verdict (List ℕ)
+told_bytes n m (Accepted bytes size) = accepted (take n bytes) size
+told_bytes n m (More least) = more (least + m)
+told_bytes n m (Refused p) = refused 3 p
 
 -- an address as a caller holds it: sixteen bytes, with zeros behind it
 abbrev pub padded : List ℕ → List ℕ
 padded address = take 16 (held address)
 
--- what such an answer does not use is 0: the scan's own number and the bytes behind the address where it is accepted, and all bytes where it is not
-abbrev pub Unused : ℕ → Scan → List ℕ → Type 0
-Unused n (Accepted v size) bytes = (v ≡ 0) × (bytes ≡ padded (take n bytes))
-Unused n (More least) bytes = bytes ≡ replicate 16 0
-Unused n (Refused p) bytes = bytes ≡ replicate 16 0
+-- the bytes behind an accepted address are 0
+abbrev pub Padded : ℕ → Scan (List ℕ) → Type 0
+Padded n (Accepted bytes size) = bytes ≡ padded (take n bytes)
+Padded n (More least) = Unit {0}
+Padded n (Refused p) = Unit {0}

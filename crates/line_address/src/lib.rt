@@ -4,7 +4,7 @@
 ghost use Rattle.std.specs.Prelude.{◌≡◌, ℕ, ◌/◌, ◌%◌};
 ghost use Rattle.header.specs.Line.{group_bytes};
 ghost use Rattle.fields.specs.Exactness.{address4 as field_of4, address6 as field_of6};
-ghost use Rattle.line_address.specs.Families.{told_bytes, Unused, width, field};
+ghost use Rattle.line_address.specs.Families.{told_bytes, Padded, width, field};
 
 use exact::Scan;
 
@@ -47,42 +47,40 @@ fn group_bytes(groups: [u16; 8]) -> [u8; 16]
 }
 
 // The octets of an IPv4 address, in the first 4 of the bytes, with zeros behind them.
-fn address4(s: &[u8], bytes: &mut [u8; 16]) -> Scan
-    ensures verdict { (m : ℕ) → told_bytes 4 m result bytes.new ≡ (field_of4 m).verdict s.now }
-    ensures unused { Unused 4 result bytes.new }
+fn address4(s: &[u8]) -> Scan<[u8; 16]>
+    ensures verdict { (m : ℕ) → told_bytes 4 m result ≡ (field_of4 m).verdict s.now }
+    ensures padded { Padded 4 result }
 {
     let found = ip4::ip4(s, b' ');
-    let scan = found.scan;
-    let octets = found.octets;
-    let mut padded = [0u8; 16];
-    padded[0] = octets[0];
-    padded[1] = octets[1];
-    padded[2] = octets[2];
-    padded[3] = octets[3];
-    *bytes = padded;
-    scan
-}
-
-fn address6(s: &[u8], bytes: &mut [u8; 16]) -> Scan
-    ensures verdict { (m : ℕ) → told_bytes 16 m result bytes.new ≡ (field_of6 m).verdict s.now }
-    ensures unused { Unused 16 result bytes.new }
-{
-    let found = ip6::address(s, b' ');
-    let scan = found.scan;
-    let groups = found.groups;
-    *bytes = group_bytes(groups);
-    scan
-}
-
-// The address of a TCP6 line if six, else of a TCP4 line, at the front of the bytes; what it leaves of them, or all where no address is accepted,
-// is zero.
-pub fn address(s: &[u8], six: bool, bytes: &mut [u8; 16]) -> Scan
-    ensures verdict { (m : ℕ) → told_bytes (width six) m result bytes.new ≡ (field six m).verdict s.now }
-    ensures unused { Unused (width six) result bytes.new }
-{
-    if six {
-        address6(s, bytes)
-    } else {
-        address4(s, bytes)
+    match found {
+        Scan::Accepted(octets, size) => {
+            let mut padded = [0u8; 16];
+            padded[0] = octets[0];
+            padded[1] = octets[1];
+            padded[2] = octets[2];
+            padded[3] = octets[3];
+            Scan::Accepted(padded, size)
+        }
+        Scan::More(least) => Scan::More(least),
+        Scan::Refused(place) => Scan::Refused(place),
     }
+}
+
+fn address6(s: &[u8]) -> Scan<[u8; 16]>
+    ensures verdict { (m : ℕ) → told_bytes 16 m result ≡ (field_of6 m).verdict s.now }
+    ensures padded { Padded 16 result }
+{
+    match ip6::address(s, b' ') {
+        Scan::Accepted(groups, size) => Scan::Accepted(group_bytes(groups), size),
+        Scan::More(least) => Scan::More(least),
+        Scan::Refused(place) => Scan::Refused(place),
+    }
+}
+
+// The address of a TCP6 line if six, else of a TCP4 line, at the front of sixteen bytes, with zeros behind it.
+pub fn address(s: &[u8], six: bool) -> Scan<[u8; 16]>
+    ensures verdict { (m : ℕ) → told_bytes (width six) m result ≡ (field six m).verdict s.now }
+    ensures padded { Padded (width six) result }
+{
+    if six { address6(s) } else { address4(s) }
 }

@@ -11,18 +11,18 @@ use Rattle.record.specs.declared.Kind.{Kind}
 use Rattle.record.specs.Kinds.{address_length}
 use Rattle.answer.specs.declared.Caller.{Caller}
 use Rattle.answer.specs.Sight.{caller_record, caller_of}
-use Rattle.line_address.specs.Families.{tcp_kind, told_bytes, padded, Unused, width, field}
+use Rattle.line_address.specs.Families.{tcp_kind, told_bytes, padded, Padded, width, field}
 
 -- what a scan of the address from `at` on found, as a verdict on it
-pub said_found : (six : Bool) (m : ℕ) (s : List ℕ) (at : ℕ) (bytes : List ℕ) {r x : Scan} → r ≡ x
-    → told_bytes (width six) m r bytes ≡ (field six m).verdict (take (length s - at) (drop at s))
-    → told_bytes (width six) m x bytes ≡ (field six m).verdict (drop at s)
-said_found six m s at bytes e h =
-    ap (λ (y : Scan). told_bytes (width six) m y bytes) (sym e) ∙ h ∙ ap (λ (t : List ℕ). (field six m).verdict t) (tail_all at s)
+pub said_found : (six : Bool) (m : ℕ) (s : List ℕ) (at : ℕ) {r x : Scan (List ℕ)} → r ≡ x
+    → told_bytes (width six) m r ≡ (field six m).verdict (take (length s - at) (drop at s))
+    → told_bytes (width six) m x ≡ (field six m).verdict (drop at s)
+said_found six m s at e h =
+    ap (told_bytes (width six) m) (sym e) ∙ h ∙ ap (λ (t : List ℕ). (field six m).verdict t) (tail_all at s)
 
 -- an accepted address has zeros behind it
-pub found_padded : (n : ℕ) (bytes : List ℕ) {r : Scan} {v size : ℕ} → r ≡ Accepted v size → Unused n r bytes → bytes ≡ padded (take n bytes)
-found_padded n bytes e u = (subst (λ (x : Scan). Unused n x bytes) e u).1
+pub found_padded : (n : ℕ) (bytes : List ℕ) {r : Scan (List ℕ)} {size : ℕ} → r ≡ Accepted bytes size → Padded n r → bytes ≡ padded (take n bytes)
+found_padded n bytes e u = subst (Padded n) e u
 
 abbrev caller_with : Kind → List ℕ → List ℕ → ℕ → ℕ → Caller
 caller_with k from to p q = record { kind = k; source = from; destination = to; source_port = p; destination_port = q }

@@ -98,12 +98,11 @@ fn from_destination(s: &[u8], at: usize, six: bool, from: [u8; 16]) -> Seen
     requires { (at ≤ length s.now) × (from ≡ padded (take (width six) from)) }
     ensures { Sees s.now (shift at ((from_destination (tcp_kind six) (field six) (take (width six) from)).verdict (drop at s.now))) result }
 {
-    let mut to = [0u8; 16];
-    match address(&s[at..], six, &mut to) {
+    match address(&s[at..], six) {
         // "0 0" and CR LF: 2 + 1 + 2.
         Scan::More(least) => more(least + 5),
         Scan::Refused(place) => refused(Refusal::Address, at + place),
-        Scan::Accepted(_, n) => from_source_port(s, at + n, six, from, to),
+        Scan::Accepted(to, n) => from_source_port(s, at + n, six, from, to),
     }
 }
 
@@ -111,12 +110,11 @@ fn from_source(s: &[u8], at: usize, six: bool) -> Seen
     requires { at ≤ length s.now }
     ensures { Sees s.now (shift at ((from_source (tcp_kind six) (field six)).verdict (drop at s.now))) result }
 {
-    let mut from = [0u8; 16];
-    match address(&s[at..], six, &mut from) {
+    match address(&s[at..], six) {
         // The destination, "0 0" and CR LF.
         Scan::More(least) => more(least + shortest_address(six) + 5),
         Scan::Refused(place) => refused(Refusal::Address, at + place),
-        Scan::Accepted(_, n) => from_destination(s, at + n, six, from),
+        Scan::Accepted(from, n) => from_destination(s, at + n, six, from),
     }
 }
 

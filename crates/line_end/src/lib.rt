@@ -4,7 +4,7 @@
 ghost use Rattle.std.specs.Prelude.{◌≡◌, ℕ, ◌≤◌};
 ghost use Rattle.exact.specs.Claim.{Claim};
 ghost use Rattle.exact.specs.Valueless.{Valueless};
-ghost use Rattle.exact.specs.Scans.{told};
+ghost use Rattle.exact.specs.Scans.{present};
 ghost use Rattle.line_end.specs.Line.{FirstEnd};
 ghost use Rattle.line_end.specs.LineVerdict.{line_verdict};
 
@@ -12,9 +12,9 @@ use exact::Scan;
 
 // The end of a line of at most limit bytes: the first CR followed by LF. A byte behind which no end fits is refused. No end fits into 0 or 1
 // bytes: then the first byte is refused, and before it the answer is More.
-pub fn line_end(s: &[u8], limit: usize) -> Scan
-    ensures verdict { (k m : ℕ) → told k m result ≡ line_verdict k m limit s.now }
-    ensures claim { (k : ℕ) → 2 ≤ limit → Claim (Valueless (FirstEnd limit)) (λ u. k) (told k 0 result) s.now }
+pub fn line_end(s: &[u8], limit: usize) -> Scan<()>
+    ensures verdict { (k m : ℕ) → present k m result ≡ line_verdict k m limit s.now }
+    ensures claim { (k : ℕ) → 2 ≤ limit → Claim (Valueless (FirstEnd limit)) (λ u. k) (present k 0 result) s.now }
 {
     let mut i: usize = 0;
     let mut cr = false;
@@ -35,5 +35,5 @@ pub fn line_end(s: &[u8], limit: usize) -> Scan
         cr = c == b'\r';
         i += 1;
     };
-    Scan::Accepted(0, end + 1)
+    Scan::Accepted((), end + 1)
 }

@@ -5,7 +5,7 @@
 ghost use Rattle.std.specs.Prelude.{◌≡◌, true, ◌⊎◌, ℕ, ◌≤◌};
 ghost use Rattle.exact.specs.Claim.{Claim};
 ghost use Rattle.exact.specs.Valueless.{Valueless};
-ghost use Rattle.exact.specs.Scans.{told};
+ghost use Rattle.exact.specs.Scans.{present};
 ghost use Rattle.tlv.specs.Tlv.{WellFormed, Filled};
 ghost use Rattle.tlv.specs.RegionVerdict.{good, judge};
 
@@ -26,9 +26,9 @@ fn is_good(size: usize, room: usize) -> bool
 
 // Judges the area of n bytes that s begins with; bytes behind it are not looked at. More with all that is missing, if s is shorter and can
 // still be completed. TLVs fill no area of 1 or 2 bytes: its first byte is refused, and before it the answer is More.
-pub fn region(s: &[u8], n: usize) -> Scan
-    ensures verdict { (k m : ℕ) → told k m result ≡ judge k m n s.now }
-    ensures claim { (k : ℕ) → (n ≡ 0) ⊎ (3 ≤ n) → Claim (Valueless (Filled n)) (λ u. k) (told k 0 result) s.now }
+pub fn region(s: &[u8], n: usize) -> Scan<()>
+    ensures verdict { (k m : ℕ) → present k m result ≡ judge k m n s.now }
+    ensures claim { (k : ℕ) → (n ≡ 0) ⊎ (3 ≤ n) → Claim (Valueless (Filled n)) (λ u. k) (present k 0 result) s.now }
 {
     let mut i: usize = 0;
     while i < n {
@@ -60,7 +60,7 @@ pub fn region(s: &[u8], n: usize) -> Scan
     if s.len() < n {
         Scan::More(n - s.len())
     } else {
-        Scan::Accepted(0, n)
+        Scan::Accepted((), n)
     }
 }
 

@@ -4,7 +4,7 @@ use Rattle.exact.specs.Claim.{Verdict, accepted, more, refused}
 use Rattle.exact.specs.Field.{Exact, shift, flat}
 use Rattle.exact.proofs.LiteralLaws.{literal_few}
 use Rattle.exact.proofs.Verdicts.{few_count}
-use Rattle.exact.specs.Scans.{told}
+use Rattle.exact.specs.Scans.{present}
 use Rattle.exact.specs.declared.Scan.{Scan}
 use Rattle.header.specs.Block.{signature}
 use Rattle.fields.specs.LineFields.{Headers}
@@ -29,8 +29,8 @@ module _ (c : After-literal) where
   abbrev text : List ℕ
   text = c.args.s.now
 
-  found : (x : Scan) → c.literal.result ≡ x → told 1 4 x ≡ signature_field.verdict text
-  found x e = ap (told 1 4) (sym e) ∙ c.literal.ensures.verdict 1 4
+  found : (x : Scan (Unit {0})) → c.literal.result ≡ x → present 1 4 x ≡ signature_field.verdict text
+  found x e = ap (present 1 4) (sym e) ∙ c.literal.ensures.verdict 1 4
 
 pub overflow_add-least : goal.overflow_add-least
 overflow_add-least c =

@@ -2,7 +2,7 @@
 use Rattle.std.proofs.Common.{ℕ, ◌+◌, ◌-◌, ◌≤◌, ◌<◌, ◌≡◌, sym, ap, ◌∙◌, List, arith, length, drop}
 use Rattle.exact.specs.Claim.{AllBytes, more}
 use Rattle.exact.specs.Parser.{reach}
-use Rattle.exact.specs.Scans.{told}
+use Rattle.exact.specs.Scans.{present}
 use Rattle.exact.specs.declared.Scan.{Scan}
 use Rattle.tlv.specs.RegionVerdict.{judge}
 use Rattle.record.specs.declared.Kind.{Kind}
@@ -49,11 +49,11 @@ module _ (c : After-region) where
         fit = start.requires.1;
       }
 
-  found : (x : Scan) → c.region.result ≡ x → told 9 0 x ≡ judge 9 0 (size start - block) (drop (16 + block) (text start))
-  found x e = said 9 0 (judge 9 0 (size start - block)) (text start) (16 + block) e (c.region.ensures.verdict 9 0)
+  found : (x : Scan (Unit {0})) → c.region.result ≡ x → present 9 0 x ≡ judge 9 0 (size start - block) (drop (16 + block) (text start))
+  found x e = said (present 9 0) (judge 9 0 (size start - block)) (text start) (16 + block) e (c.region.ensures.verdict 9 0)
 
-  inside : (x : Scan) → c.region.result ≡ x → 16 + block + reach (told 9 0 x) ≤ length (text start)
-  inside x e = tlvs_inside here (told 9 0 x) (found x e)
+  inside : (x : Scan (Unit {0})) → c.region.result ≡ x → 16 + block + reach (present 9 0 x) ≤ length (text start)
+  inside x e = tlvs_inside here (present 9 0 x) (found x e)
 
 pub overflow_add-at : goal.overflow_add-at
 overflow_add-at c = omega (arith, block_small (kind (goal.at.overflow_add-at c).After-shared_slice_known-1))

@@ -1,4 +1,4 @@
-use Rattle.std.proofs.Common.{ℕ, ◌+◌, ◌*◌, ◌≤◌, ◌<◌, ◌-◌, ◌≡◌, refl, sym, ap, ap₂, ◌∙◌, subst₂, Bool, List, [], ◌∷◌, arith, replicate, length, drop, length-drop, length-set, eq-eqb, ne_eqb}
+use Rattle.std.proofs.Common.{ℕ, ◌+◌, ◌*◌, ◌≤◌, ◌<◌, ◌-◌, ◌≡◌, refl, sym, ap, ◌∙◌, Bool, List, [], ◌∷◌, arith, length, drop, length-drop, length-set, eq-eqb, ne_eqb}
 use Rattle.exact.specs.declared.Scan.{Scan}
 use Rattle.exact.specs.declared.Scan.TheVariants.{Accepted, More, Refused}
 use Rattle.exact.specs.Claim.{more, Claim}
@@ -6,9 +6,7 @@ use Rattle.exact.specs.Ended.{Ended}
 use Rattle.exact.specs.Pick.{pick}
 use Rattle.exact.proofs.Parser.{tail_all}
 use Rattle.exact.proofs.Theorem.{leaf_claims}
-use Rattle.ip4.specs.declared.Octets.{Octets}
-use Rattle.exact.specs.Scans.{told, heard}
-use Rattle.ip4.specs.Octets.{told_octets, Unused}
+use Rattle.exact.specs.Scans.{told}
 use Rattle.decimal.specs.Decimal.{Digit}
 use Rattle.ip4.specs.Ip4.{Address}
 use Rattle.exact.specs.Verdicts.{Within}
@@ -21,10 +19,10 @@ use Rattle.ip4.proofs.Turn.{octets_start, octets_end, octet_more, octet_refused,
 use Rattle.ip4.proofs.ip4.Goals.{After-decimal, At-loop-i, In-Accepted, Start, else-i-lt3, then-i-lt3}
 use Rattle.ip4.proofs.ip4.Goals as goal
 
-abbrev Answered : List ℕ → ℕ → Octets → Type 0
+abbrev Answered : List ℕ → ℕ → Scan (List ℕ) → Type 0
 Answered s end r =
-    ((k m : ℕ) → told_octets k m r ≡ ip4_verdict k m end s)
-    × (Unused r.scan r.octets × ((k : ℕ) → (Digit end → ⊥) → Claim (Ended Address end) (λ u. k) (told_octets k 0 r) s))
+    ((k m : ℕ) → told k m r ≡ ip4_verdict k m end s)
+    × ((k : ℕ) → (Digit end → ⊥) → Claim (Ended Address end) (λ u. k) (told k 0 r) s)
 
 -- a verdict, with its claim
 module _ (c : Start) where
@@ -34,22 +32,13 @@ module _ (c : Start) where
   abbrev last : ℕ
   last = c.args.end
 
-  answered : (r : Octets) → ((k m : ℕ) → told_octets k m r ≡ ip4_verdict k m last whole) → Unused r.scan r.octets → Answered whole last r
-  answered r verdict unused = (
+  answered : (r : Scan (List ℕ)) → ((k m : ℕ) → told k m r ≡ ip4_verdict k m last whole) → Answered whole last r
+  answered r verdict = (
     verdict,
-    (
-      unused,
-      λ k apart.
-          let p = ip4 k 0 last apart c.ranges.end.fits in
-          leaf_claims k (Ended Address last) p.bytes whole (verdict k 0) (p.exact whole),
-    ),
+    λ k apart.
+        let p = ip4 k 0 last apart c.ranges.end.fits in
+        leaf_claims k (Ended Address last) p.bytes whole (verdict k 0) (p.exact whole),
   )
-
-  -- an answer without octets
-  bare : (r : Octets) (scan : Scan) → (r.scan ≡ scan) × (r.octets ≡ replicate 4 0)
-      → ((k m : ℕ) → heard k m scan (replicate 4 0) ≡ ip4_verdict k m last whole) → Unused scan (replicate 4 0) → Answered whole last r
-  bare r scan e verdict unused =
-      answered r (λ k m. ap₂ (heard k m) e.0 e.1 ∙ verdict k m) (subst₂ Unused (sym e.0) (sym e.1) unused)
 
 -- a turn of the loop, behind its call
 abbrev Turn : Type 0
@@ -84,13 +73,13 @@ module _ (l : Turn) where
   stop_is =
       elim l.if-i-lt3.branch [ then-i-lt3 w ↦ let h = w.if-i-lt3.true in w.stop-is ∙ ap (λ (b : Bool). pick b end 46) (sym (ne_eqb (3 - i) 0 (omega arith))) | else-i-lt3 w ↦ let h = w.if-i-lt3.false in w.stop-is ∙ ap (λ (b : Bool). pick b end 46) (sym (eq-eqb (3 - i) 0 (omega arith))) ]
 
-  said : (k m : ℕ) (r : Scan) → l.decimal.result ≡ r → told k m r ≡ decimal_verdict k m 255 (end_of end (3 - i)) (drop at text)
+  said : (k m : ℕ) (r : Scan ℕ) → l.decimal.result ≡ r → told k m r ≡ decimal_verdict k m 255 (end_of end (3 - i)) (drop at text)
   said k m r e =
       ap (told k m) (sym e) ∙ l.decimal.ensures.verdict k m
       ∙ ap (λ (s : List ℕ). decimal_verdict k m 255 l.if-i-lt3.stop s) (tail_all at text)
       ∙ ap (λ (c : ℕ). decimal_verdict k m 255 c (drop at text)) stop_is
 
-  within : (r : Scan) → l.decimal.result ≡ r → Within (λ (n : ℕ). n ≤ 255) (length text - at) (told 0 0 r)
+  within : (r : Scan ℕ) → l.decimal.result ≡ r → Within (λ (n : ℕ). n ≤ 255) (length text - at) (told 0 0 r)
   within r e = rw (said 0 0 r e) (rw (← (length-drop at text)) (decimal_within 255 (end_of end (3 - i)) 0 0 (drop at text)))
 
 pub loop-i-init : goal.loop-i-init
@@ -119,27 +108,26 @@ overflow_cast-octets c = let h = small c in omega arith
 pub overflow_add-at : goal.overflow_add-at
 overflow_add-at c = let h = fits c in omega arith
 
-pub overflow_add-least : goal.overflow_add-least
-overflow_add-least c =
-    let turn = (goal.at.overflow_add-least c).After-decimal in
+pub overflow_add-result : goal.overflow_add-result
+overflow_add-result c =
+    let turn = (goal.at.overflow_add-result c).After-decimal in
     omega (arith, few_count 2 (said turn 0 0 _ c.in-More.is) (decimal_few 255 (end_of (end turn) (3 - i turn)) 0 0 (drop (at turn) (text turn))))
 
 pub returns-in-More : goal.returns-in-More
 returns-in-More c =
     let turn = (goal.at.returns-in-More c).After-decimal in
     let least : ℕ = c.in-More.least in
-    let it = bare (entry turn) _ (More (least + 2 * (3 - i turn))) c.without.ensures
+    let it = answered (entry turn) (More (least + 2 * (3 - i turn)))
     (λ k m.
     ap more (omega arith)
     ∙ octet_more k m (end turn) (text turn) (i turn) (octets turn) (at turn) (inside turn) (least + (2 * (3 - i turn) + m))
     (said turn k _ (More least) c.in-More.is)
-    ∙ sym ((so_far turn).loop-i.invariant.3 k m))
-    refl in
-    record { verdict = it.0; unused = it.1.0; claim = it.1.1 }
+    ∙ sym ((so_far turn).loop-i.invariant.3 k m)) in
+    record { verdict = it.0; claim = it.1 }
 
-pub overflow_add-at-in-Refused : goal.overflow_add-at-in-Refused
-overflow_add-at-in-Refused c =
-    let turn = (goal.at.overflow_add-at-in-Refused c).After-decimal in
+pub overflow_add-result-in-Refused : goal.overflow_add-result-in-Refused
+overflow_add-result-in-Refused c =
+    let turn = (goal.at.overflow_add-result-in-Refused c).After-decimal in
     let h = within turn (Refused c.in-Refused.place) c.in-Refused.is in
     omega arith
 
@@ -147,13 +135,12 @@ pub returns-in-Refused : goal.returns-in-Refused
 returns-in-Refused c =
     let turn = (goal.at.returns-in-Refused c).After-decimal in
     let place : ℕ = c.in-Refused.place in
-    let it = bare (entry turn) _ (Refused (at turn + place)) c.without-in-Refused.ensures
+    let it = answered (entry turn) (Refused (at turn + place))
     (λ k m.
     octet_refused k m (end turn) (text turn) (i turn) (octets turn) (at turn) (inside turn) place
     (said turn k _ (Refused place) c.in-Refused.is)
-    ∙ sym ((so_far turn).loop-i.invariant.3 k m))
-    refl in
-    record { verdict = it.0; unused = it.1.0; claim = it.1.1 }
+    ∙ sym ((so_far turn).loop-i.invariant.3 k m)) in
+    record { verdict = it.0; claim = it.1 }
 
 pub loop-i-preserved : goal.loop-i-preserved
 loop-i-preserved c = (
@@ -168,9 +155,8 @@ loop-i-preserved c = (
 
 pub returns : goal.returns
 returns c =
-    let it = answered (goal.at.returns c).Start (record { scan = Accepted 0 c.loop-i.at; octets = c.loop-i.octets })
+    let it = answered (goal.at.returns c).Start (Accepted c.loop-i.octets c.loop-i.at)
     (λ k m.
     octets_end k m _ _ c.loop-i.i c.loop-i.octets c.loop-i.at (omega arith) c.loop-i.invariant.1
-    ∙ sym (c.loop-i.invariant.3 k m))
-    refl in
-    record { verdict = it.0; unused = it.1.0; claim = it.1.1 }
+    ∙ sym (c.loop-i.invariant.3 k m)) in
+    record { verdict = it.0; claim = it.1 }

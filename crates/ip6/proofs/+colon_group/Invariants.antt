@@ -15,7 +15,7 @@ decreases-colon l = length l.s.now.now - l.i
 abbrev pub invariant-group-loop-at : goal.invariant-group-loop-at
 invariant-group-loop-at l =
     (l.at ≡ l.i + l.n) × (l.n ≤ 4) × (l.v < 16 ^ l.n) × Sized (sofar l.groups l.count l.gap)
-    × ((r : Scan) (g : List ℕ) → From l.end l.bytes l.at (digits (gathered_of (sofar l.groups l.count l.gap)) l.n l.v) r g
+    × ((r : Scan (Unit {0})) (g : List ℕ) → From l.end l.bytes l.at (digits (gathered_of (sofar l.groups l.count l.gap)) l.n l.v) r g
     → From l.end l.bytes l.i (digits (gathered_of (sofar l.initial.groups l.count l.gap)) 0 0) r g)
 
 abbrev pub decreases-group-loop-at : goal.decreases-group-loop-at

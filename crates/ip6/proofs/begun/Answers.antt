@@ -6,7 +6,7 @@ use Rattle.ip6.specs.Answer.{From}
 use Rattle.ip6.proofs.Turn.{wants, likewise}
 use Rattle.ip6.proofs.begun.Goals as goal
 
-module _ {end : ℕ} {s : List ℕ} {t : Scan} {g : List ℕ} where
+module _ {end : ℕ} {s : List ℕ} {t : Scan (Unit {0})} {g : List ℕ} where
   at_colon : (length s ≡ 0 → ⊥) → get_or s 0 0 ≡ 58 → From end s 0 (behind (plain [])) t g → From end s 0 start t g
   at_colon n e f = likewise (omega arith) (simp (eq-eqb (get_or s 0 0) 58 e)) f
 

@@ -9,14 +9,12 @@ pub returns-then-count-eq8 : goal.returns-then-count-eq8
 returns-then-count-eq8 c =
     record {
       verdict = λ k m. ap (closed k m _) (sym (finish_full _ c.requires.0 c.if-gap-eq0.true c.if-count-eq8.true));
-      bare = refl;
     }
 
 pub returns-else-count-eq8 : goal.returns-else-count-eq8
 returns-else-count-eq8 c =
     record {
       verdict = λ k m. ap (closed k m _) (sym (finish_few _ c.requires.0 c.if-gap-eq0.true c.if-count-eq8.false));
-      bare = tt;
     }
 
 pub returns-else-gap-eq0 : goal.returns-else-gap-eq0
@@ -25,5 +23,4 @@ returns-else-gap-eq0 c =
       verdict = λ k m.
           ap (λ (g : List ℕ). accepted g (c.args.i + 1)) c.spread_out.ensures
           ∙ ap (closed k m _) (sym (finish_gapped _ c.requires.0 c.if-gap-eq0.false));
-      bare = refl;
     }

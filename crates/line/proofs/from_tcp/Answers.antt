@@ -1,6 +1,6 @@
 -- "TCP" is a literal field, and the family follows.
 use Rattle.std.proofs.Common.{ℕ, ◌≡◌, List, arith, drop}
-use Rattle.exact.specs.Scans.{told}
+use Rattle.exact.specs.Scans.{present}
 use Rattle.exact.proofs.Stage.{stage_inside, stage_place}
 use Rattle.exact.specs.Ascii.{ascii}
 use Rattle.exact.proofs.LiteralLaws.{literal_few}
@@ -25,8 +25,8 @@ module _ (c : After-literal) where
   abbrev rest : ℕ → Headers
   rest x = families address4 address6
 
-  found : (x : Scan) → c.literal.result ≡ x → told 2 13 x ≡ (tcp_word 13).verdict (drop at text)
-  found x e = said 2 13 (tcp_word 13).verdict text at e (c.literal.ensures.verdict 2 13)
+  found : (x : Scan (Unit {0})) → c.literal.result ≡ x → present 2 13 x ≡ (tcp_word 13).verdict (drop at text)
+  found x e = said (present 2 13) (tcp_word 13).verdict text at e (c.literal.ensures.verdict 2 13)
 
 pub overflow_add-least : goal.overflow_add-least
 overflow_add-least c = let ran = (goal.at.overflow_add-least c).After-literal in omega (arith, few_count 16 (found ran _ c.in-More.is) (literal_few 2 13 0 (ascii "TCP") (drop (at ran) (text ran))))

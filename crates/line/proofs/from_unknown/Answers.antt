@@ -1,6 +1,6 @@
 -- "UNKNOWN" is a literal field, and its end follows.
 use Rattle.std.proofs.Common.{ℕ, ◌≡◌, List, arith, drop}
-use Rattle.exact.specs.Scans.{told}
+use Rattle.exact.specs.Scans.{present}
 use Rattle.exact.proofs.Stage.{stage_inside, stage_place}
 use Rattle.exact.specs.Ascii.{ascii}
 use Rattle.exact.proofs.LiteralLaws.{literal_few}
@@ -24,8 +24,8 @@ module _ (c : After-literal) where
   abbrev rest : ℕ → Headers
   rest x = unknown_end
 
-  found : (x : Scan) → c.literal.result ≡ x → told 2 2 x ≡ unknown_word.verdict (drop at text)
-  found x e = said 2 2 unknown_word.verdict text at e (c.literal.ensures.verdict 2 2)
+  found : (x : Scan (Unit {0})) → c.literal.result ≡ x → present 2 2 x ≡ unknown_word.verdict (drop at text)
+  found x e = said (present 2 2) unknown_word.verdict text at e (c.literal.ensures.verdict 2 2)
 
 pub overflow_add-least : goal.overflow_add-least
 overflow_add-least c = let ran = (goal.at.overflow_add-least c).After-literal in omega (arith, few_count 9 (found ran _ c.in-More.is) (literal_few 2 2 0 (ascii "UNKNOWN") (drop (at ran) (text ran))))

@@ -4,7 +4,7 @@ use Rattle.exact.specs.Claim.{accepted, more, refused}
 use Rattle.exact.specs.Ascii.{ascii}
 use Rattle.exact.proofs.LiteralLaws.{literal_few}
 use Rattle.exact.proofs.Verdicts.{few_count}
-use Rattle.exact.specs.Scans.{told}
+use Rattle.exact.specs.Scans.{present}
 use Rattle.exact.specs.declared.Scan.{Scan}
 use Rattle.fields.specs.Exactness.{address4, address6}
 use Rattle.fields.specs.LineFields.{proxy_word, words}
@@ -16,8 +16,8 @@ module _ (c : After-literal) where
   abbrev text : List ℕ
   text = c.args.s.now
 
-  found : (x : Scan) → c.literal.result ≡ x → told 1 9 x ≡ (proxy_word 9).verdict text
-  found x e = ap (told 1 9) (sym e) ∙ c.literal.ensures.verdict 1 9
+  found : (x : Scan (Unit {0})) → c.literal.result ≡ x → present 1 9 x ≡ (proxy_word 9).verdict text
+  found x e = ap (present 1 9) (sym e) ∙ c.literal.ensures.verdict 1 9
 
 pub overflow_add-least : goal.overflow_add-least
 overflow_add-least c = let ran = (goal.at.overflow_add-least c).After-literal in omega (arith, few_count 15 (found ran _ c.in-More.is) (literal_few 1 9 0 (ascii "PROXY ") (text ran)))

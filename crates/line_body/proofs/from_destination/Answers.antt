@@ -32,8 +32,8 @@ module _ (c : After-address) where
   abbrev address : Parser (List ℕ) (flat 5)
   address = field six 5
 
-  found : (x : Scan) → c.address.result ≡ x → told_bytes (width six) 5 x c.address.new.bytes ≡ (field six 5).verdict (drop at text)
-  found x e = said_found six 5 text at c.address.new.bytes e (c.address.ensures.verdict 5)
+  found : (x : Scan (List ℕ)) → c.address.result ≡ x → told_bytes (width six) 5 x ≡ (field six 5).verdict (drop at text)
+  found x e = said_found six 5 text at e (c.address.ensures.verdict 5)
 
 pub overflow_add-least : goal.overflow_add-least
 overflow_add-least c = let ran = (goal.at.overflow_add-least c).After-address in omega (arith, few_count 13 (found ran _ c.in-More.is) (address_few (six ran) 5 (drop (at ran) (text ran))))
@@ -51,7 +51,7 @@ from_source_port-requires c =
     let accepted = c.in-Accepted.is in (
       stage_inside (address ran) (text ran) (at ran) pre.0 _ _ (found ran _ accepted),
       pre.1,
-      found_padded (width (six ran)) _ accepted ran.address.ensures.unused,
+      found_padded (width (six ran)) _ accepted ran.address.ensures.padded,
     )
 
 pub returns-in-More : goal.returns-in-More

@@ -31,8 +31,8 @@ module _ (c : After-decimal) where
   rest q =
       line_feed (lined (record_of (tcp_kind start.args.six) (take (width start.args.six) start.args.from) (take (width start.args.six) start.args.to) start.args.p q))
 
-  found : (x : Scan) → c.decimal.result ≡ x → told 4 1 x ≡ destination_port.verdict (drop at text)
-  found x e = said 4 1 destination_port.verdict text at e (c.decimal.ensures.verdict 4 1)
+  found : (x : Scan ℕ) → c.decimal.result ≡ x → told 4 1 x ≡ destination_port.verdict (drop at text)
+  found x e = said (told 4 1) destination_port.verdict text at e (c.decimal.ensures.verdict 4 1)
 
 pub overflow_add-least : goal.overflow_add-least
 overflow_add-least c = let ran = (goal.at.overflow_add-least c).After-decimal in omega (arith, few_count 3 (found ran _ c.in-More.is) (decimal_few 65535 13 4 1 (drop (at ran) (text ran))))

@@ -2,7 +2,7 @@
 use Rattle.std.proofs.Common.{ℕ, ◌+◌, ◌≡◌, refl, ap, ◌∙◌, List, arith, drop}
 use Rattle.exact.specs.Claim.{more}
 use Rattle.exact.specs.Field.{flat}
-use Rattle.exact.specs.Scans.{told}
+use Rattle.exact.specs.Scans.{present}
 use Rattle.exact.proofs.Stage.{stage_inside, stage_place}
 use Rattle.exact.proofs.ParserLemmas.{just}
 use Rattle.exact.specs.declared.Scan.{Scan}
@@ -27,8 +27,8 @@ module _ (c : After-line_end) where
   abbrev rest : ℕ → Headers
   rest x = just (flat 0) (lined (bare Unspecified))
 
-  found : (x : Scan) → c.line_end.result ≡ x → told 5 0 x ≡ rest_field.verdict (drop at text)
-  found x e = said 5 0 rest_field.verdict text at e (c.line_end.ensures.verdict 5 0)
+  found : (x : Scan (Unit {0})) → c.line_end.result ≡ x → present 5 0 x ≡ rest_field.verdict (drop at text)
+  found x e = said (present 5 0) rest_field.verdict text at e (c.line_end.ensures.verdict 5 0)
 
 pub overflow_add-at : goal.overflow_add-at
 overflow_add-at c = let ran = (goal.at.overflow_add-at c).After-line_end in let h = stage_place rest_field (text ran) (at ran) (start ran).requires 5 _ (found ran _ c.in-Refused.is) in omega arith

@@ -33,8 +33,8 @@ module _ (c : After-address) where
   abbrev address : Parser (List ℕ) (flat (field six 5).least)
   address = field six (field six 5).least
 
-  found : (x : Scan) → c.address.result ≡ x → told_bytes (width six) (field six 5).least x c.address.new.bytes ≡ (field six (field six 5).least).verdict (drop at text)
-  found x e = said_found six (field six 5).least text at c.address.new.bytes e (c.address.ensures.verdict (field six 5).least)
+  found : (x : Scan (List ℕ)) → c.address.result ≡ x → told_bytes (width six) (field six 5).least x ≡ (field six (field six 5).least).verdict (drop at text)
+  found x e = said_found six (field six 5).least text at e (c.address.ensures.verdict (field six 5).least)
 
 -- the sum is that of the address and what is asked behind it
 module _ (c : After-shortest_address) where
@@ -61,7 +61,7 @@ from_destination-requires c =
     let ran = (goal.at.from_destination-requires c).After-address in
     let accepted = c.in-Accepted.is in (
       stage_inside (address ran) (text ran) (at ran) (start ran).requires _ _ (found ran _ accepted),
-      found_padded (width (six ran)) _ accepted ran.address.ensures.unused,
+      found_padded (width (six ran)) _ accepted ran.address.ensures.padded,
     )
 
 pub returns-in-More : goal.returns-in-More

@@ -25,8 +25,8 @@ module _ (c : After-decimal) where
   rest =
       from_destination_port (tcp_kind start.args.six) (take (width start.args.six) start.args.from) (take (width start.args.six) start.args.to)
 
-  found : (x : Scan) → c.decimal.result ≡ x → told 4 3 x ≡ source_port.verdict (drop at text)
-  found x e = said 4 3 source_port.verdict text at e (c.decimal.ensures.verdict 4 3)
+  found : (x : Scan ℕ) → c.decimal.result ≡ x → told 4 3 x ≡ source_port.verdict (drop at text)
+  found x e = said (told 4 3) source_port.verdict text at e (c.decimal.ensures.verdict 4 3)
 
 pub overflow_add-least : goal.overflow_add-least
 overflow_add-least c = let ran = (goal.at.overflow_add-least c).After-decimal in omega (arith, few_count 5 (found ran _ c.in-More.is) (decimal_few 65535 32 4 3 (drop (at ran) (text ran))))

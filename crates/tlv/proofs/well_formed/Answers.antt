@@ -1,6 +1,6 @@
 -- `well_formed` goes by what `region` ensures: bytes judged as an area of their own length are accepted exactly if they are well-formed.
 use Rattle.std.proofs.Common.{ℕ, ◌≡◌, refl, true, false, List, ◌↔◌, arith, length}
-use Rattle.exact.specs.Scans.{told}
+use Rattle.exact.specs.Scans.{present}
 use Rattle.tlv.specs.Tlv.{WellFormed}
 use Rattle.tlv.specs.Whole.{Accepted}
 use Rattle.tlv.proofs.Whole.{judged}
@@ -11,10 +11,10 @@ module _ (c : After-region) where
   abbrev area : List ℕ
   area = c.args.s.now
 
-  says : Accepted (told 0 0 c.region.result) ↔ WellFormed area
+  says : Accepted (present 0 0 c.region.result) ↔ WellFormed area
   says = rw (c.region.ensures.verdict 0 0) (judged 0 0 (length area) area refl)
 
-  denies : (Accepted (told 0 0 c.region.result) → ⊥) → (false ≡ true → WellFormed area) × (WellFormed area → false ≡ true)
+  denies : (Accepted (present 0 0 c.region.result) → ⊥) → (false ≡ true → WellFormed area) × (WellFormed area → false ≡ true)
   denies not = (λ e. absurd (let z : ◌≡◌ {A = ℕ} 0 1 = cc in omega arith), λ w. absurd (not (says.1 w)))
 
 pub returns-in-Accepted : goal.returns-in-Accepted
