@@ -1,3 +1,4 @@
 pub mod OneSight
 pub mod OutputLaws
 pub mod StageLaws
+pub mod PlaceLaws

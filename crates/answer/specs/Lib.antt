@@ -3,3 +3,4 @@ pub mod Sight
 pub mod Headers
 pub mod OneSight
 pub mod OutputLaws
+pub mod Places

@@ -5,7 +5,9 @@ ghost use Rattle.std.specs.Prelude.{◌≡◌, List, ℕ};
 ghost use Rattle.exact.specs.Claim.{more as more_of, refused as refused_of};
 ghost use Rattle.answer.specs.Answers.{number_of, fault_number, told_written, is_written};
 ghost use Rattle.answer.specs.Sight.{kind_only, in_bytes, Sees};
+ghost use Rattle.answer.specs.Places.{placed};
 
+use exact::Scan;
 use record::{Kind, Record};
 
 // The field that holds the first dead byte: document 01's numbers 1 to 9.
@@ -100,6 +102,31 @@ pub struct Header {
     pub length: usize,
     pub version: u8,
     pub record: Record,
+}
+
+// What a scan of the bytes from `at` on makes of the header: where the field is whole, its value and the place behind it; else the header's own answer,
+// by the field's refusal and how few bytes must follow the field.
+pub fn place<T: Copy>(
+    scan: Scan<T>,
+    at: usize,
+    refusal: Refusal,
+    behind: usize,
+) -> Result<Found<T>, Stop>
+    ensures { result ≡ placed scan at refusal behind }
+{
+    match scan {
+        Scan::Accepted(value, n) => Ok(Found {
+            value,
+            end: at.saturating_add(n),
+        }),
+        Scan::More(least) => Err(Stop::More {
+            least: least.saturating_add(behind),
+        }),
+        Scan::Refused(place) => Err(Stop::Refused {
+            refusal,
+            place: at.saturating_add(place),
+        }),
+    }
 }
 
 // A caller of whom only the kind is known.
