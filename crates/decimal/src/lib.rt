@@ -1,10 +1,10 @@
 // Decimal text. No public function has a `requires`.
 #![tactic(auto)]
 
-ghost use Rattle.std.specs.Prelude.{◌≡◌, ℕ};
+ghost use Rattle.std.specs.Prelude.{◌≡◌, ℕ, length};
 ghost use Rattle.exact.specs.Claim.{Claim};
 ghost use Rattle.exact.specs.Ended.{Ended};
-ghost use Rattle.exact.specs.Scans.{told};
+ghost use Rattle.exact.specs.Scans.{told, Inside};
 ghost use Rattle.decimal.specs.Decimal.{Digit, Decimal};
 ghost use Rattle.decimal.specs.DecimalVerdict.{digit, decimal_verdict};
 ghost use Rattle.decimal.specs.Grows.{move_of};
@@ -41,6 +41,7 @@ fn grow(n: u32, c: u8, bound: u32) -> Grown
 pub fn decimal(s: &[u8], bound: u32, end: u8) -> Scan<u32>
     ensures verdict { (k m : ℕ) → told k m result ≡ decimal_verdict k m bound end s.now }
     ensures claim { (k : ℕ) → (Digit end → ⊥) → Claim (Ended (Decimal bound) end) (λ u. k) (told k 0 result) s.now }
+    ensures inside { Inside (length s.now) 2 result }
 {
     if s.len() == 0 {
         return Scan::More(2);

@@ -1,5 +1,5 @@
 -- A scan's answer as a verdict on a field with the number k, behind which m bytes are asked at least.
-use Rattle.std.specs.Prelude.{ℕ, ◌+◌}
+use Rattle.std.specs.Prelude.{ℕ, ◌+◌, ◌≤◌, ◌<◌, ⊤}
 use Rattle.exact.specs.declared.Scan.{Scan}
 use Rattle.exact.specs.declared.Scan.TheVariants.{Accepted, More, Refused}
 use Rattle.exact.specs.Claim.{Verdict, accepted, more, refused}
@@ -18,3 +18,15 @@ heard k m (Refused p) b = refused k p
 -- of a field that says nothing but that it is there
 abbrev pub present : {A : Type 0} → ℕ → ℕ → Scan A → Verdict ℕ
 present k m scan = heard k m scan 0
+
+-- An accepted field lies in n bytes, and so does the byte that rules one out. No more than `most` further bytes are asked.
+abbrev pub Inside : {A : Type 0} → (n most : ℕ) → Scan A → Type 0
+Inside n most (Accepted a size) = size ≤ n
+Inside n most (More least) = least ≤ most
+Inside n most (Refused place) = place < n
+
+-- P holds of an accepted field's value
+abbrev pub IfAccepted : {A : Type 0} → Scan A → (A → Type 0) → Type 0
+IfAccepted (Accepted a n) P = P a
+IfAccepted (More n) P = ⊤
+IfAccepted (Refused p) P = ⊤

@@ -2,11 +2,11 @@
 // No public function has a `requires`.
 #![tactic(auto)]
 
-ghost use Rattle.std.specs.Prelude.{◌≡◌, ℕ};
+ghost use Rattle.std.specs.Prelude.{◌≡◌, ℕ, length};
 ghost use Rattle.exact.specs.Claim.{Claim};
 ghost use Rattle.exact.specs.Valueless.{Valueless};
 ghost use Rattle.exact.specs.Network.{number as number_of};
-ghost use Rattle.exact.specs.Scans.{present};
+ghost use Rattle.exact.specs.Scans.{present, Inside};
 ghost use Rattle.exact.specs.Literal.{Common, literal as literal_of};
 
 // What a scan of a field finds. A field that says nothing but that it is there has the value ().
@@ -39,6 +39,7 @@ fn common(s: &[u8], w: &[u8]) -> usize
 pub fn literal(s: &[u8], w: &[u8]) -> Scan<()>
     ensures verdict { (k m : ℕ) → present k m result ≡ literal_of k m 0 w.now s.now }
     ensures claim { (k : ℕ) → Claim (Valueless (λ f. f ≡ w.now)) (λ u. k) (present k 0 result) s.now }
+    ensures inside { Inside (length s.now) (length w.now) result }
 {
     let n = common(s, w);
     let whole = n == w.len();

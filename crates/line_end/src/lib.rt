@@ -1,10 +1,10 @@
 // The end of an UNKNOWN line. No public function has a `requires`.
 #![tactic(auto)]
 
-ghost use Rattle.std.specs.Prelude.{◌≡◌, ℕ, ◌≤◌};
+ghost use Rattle.std.specs.Prelude.{◌≡◌, ℕ, ◌≤◌, length};
 ghost use Rattle.exact.specs.Claim.{Claim};
 ghost use Rattle.exact.specs.Valueless.{Valueless};
-ghost use Rattle.exact.specs.Scans.{present};
+ghost use Rattle.exact.specs.Scans.{present, Inside};
 ghost use Rattle.line_end.specs.Line.{FirstEnd};
 ghost use Rattle.line_end.specs.LineVerdict.{line_verdict};
 
@@ -15,6 +15,7 @@ use exact::Scan;
 pub fn line_end(s: &[u8], limit: usize) -> Scan<()>
     ensures verdict { (k m : ℕ) → present k m result ≡ line_verdict k m limit s.now }
     ensures claim { (k : ℕ) → 2 ≤ limit → Claim (Valueless (FirstEnd limit)) (λ u. k) (present k 0 result) s.now }
+    ensures inside { Inside (length s.now) 2 result }
 {
     let mut i: usize = 0;
     let mut cr = false;

@@ -2,10 +2,10 @@
 // No public function has a `requires`.
 #![tactic(auto)]
 
-ghost use Rattle.std.specs.Prelude.{◌≡◌, true, ◌⊎◌, ℕ, ◌≤◌};
+ghost use Rattle.std.specs.Prelude.{◌≡◌, true, ◌⊎◌, ℕ, ◌≤◌, length};
 ghost use Rattle.exact.specs.Claim.{Claim};
 ghost use Rattle.exact.specs.Valueless.{Valueless};
-ghost use Rattle.exact.specs.Scans.{present};
+ghost use Rattle.exact.specs.Scans.{present, Inside};
 ghost use Rattle.tlv.specs.Tlv.{WellFormed, Filled};
 ghost use Rattle.tlv.specs.RegionVerdict.{good, judge};
 
@@ -29,6 +29,7 @@ fn is_good(size: usize, room: usize) -> bool
 pub fn region(s: &[u8], n: usize) -> Scan<()>
     ensures verdict { (k m : ℕ) → present k m result ≡ judge k m n s.now }
     ensures claim { (k : ℕ) → (n ≡ 0) ⊎ (3 ≤ n) → Claim (Valueless (Filled n)) (λ u. k) (present k 0 result) s.now }
+    ensures inside { Inside (length s.now) n result }
 {
     let mut i: usize = 0;
     while i < n {

@@ -113,12 +113,12 @@ pub returns-then-s-eq0 : goal.returns-then-s-eq0
 returns-then-s-eq0 c =
     let start = (goal.at.returns-then-s-eq0 c).Start in
     let it = answered start (λ k m. no_bytes k m (step_decimal (most start) (stop start)) (whole start) c.if-s-eq0.true) in
-    record { verdict = it.0; claim = it.1 }
+    record { verdict = it.0; claim = it.1; inside = omega arith }
 
 pub returns-in_default : goal.returns-in_default
 returns-in_default c =
     let it = answered (entry (goal.at.returns-in_default c).After-grow) (λ k m. dies_first (goal.at.returns-in_default c).After-grow k m c.in_default.is) in
-    record { verdict = it.0; claim = it.1 }
+    record { verdict = it.0; claim = it.1; inside = omega arith }
 
 pub loop-i-init : goal.loop-i-init
 loop-i-init c = (some (goal.at.loop-i-init c).After-grow, λ k m. goes_first (goal.at.loop-i-init c).After-grow k m _ c.in-Number.is)
@@ -126,19 +126,19 @@ loop-i-init c = (some (goal.at.loop-i-init c).After-grow, λ k m. goes_first (go
 pub returns-then-c-end : goal.returns-then-c-end
 returns-then-c-end c =
     let it = answered (entry (begun (goal.at.returns-then-c-end c).After-shared_slice_known-in-loop-i-1)) (λ k m. ends (goal.at.returns-then-c-end c).After-shared_slice_known-in-loop-i-1 k m (behind_end _ _ _ _ c.if-c-end.true)) in
-    record { verdict = it.0; claim = it.1 }
+    record { verdict = it.0; claim = it.1; inside = omega arith }
 
 pub returns-then-zero : goal.returns-then-zero
 returns-then-zero c =
     let it = answered (entry (begun (goal.at.returns-then-zero c).After-shared_slice_known-in-loop-i-1))
     (λ k m. dies (goal.at.returns-then-zero c).After-shared_slice_known-in-loop-i-1 k m (behind_zero _ _ _ _ c.if-c-end.false c.if-zero.true)) in
-    record { verdict = it.0; claim = it.1 }
+    record { verdict = it.0; claim = it.1; inside = omega arith }
 
 pub returns-in_default-grow : goal.returns-in_default-grow
 returns-in_default-grow c =
     let grew = (goal.at.returns-in_default-grow c).After-grow-in-loop-i in
     let it = answered (entry (begun (turn grew))) (λ k m. dies (turn grew) k m (move grew Dead c.in_default-grow.is)) in
-    record { verdict = it.0; claim = it.1 }
+    record { verdict = it.0; claim = it.1; inside = omega arith }
 
 pub loop-i-preserved : goal.loop-i-preserved
 loop-i-preserved c =
@@ -149,4 +149,4 @@ pub returns : goal.returns
 returns c =
     let it = answered (entry (goal.at.returns c).After-grow)
     (λ k m. sym (c.loop-i.invariant.1 k m ∙ from_end k _ _ _ _ _ c.loop-i-test.false)) in
-    record { verdict = it.0; claim = it.1 }
+    record { verdict = it.0; claim = it.1; inside = omega arith }

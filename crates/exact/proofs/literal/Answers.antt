@@ -93,8 +93,8 @@ module _ (c : After-common-n) where
   )
 
 pub returns-then-whole : goal.returns-then-whole
-returns-then-whole c = let ran = (goal.at.returns-then-whole c).After-common-n in let it = answered ran (λ k m. word_all k m (text ran) _ (word ran) ran.common-n.ensures c.if-whole.true) in
-    record { verdict = it.0; claim = it.1 }
+returns-then-whole c = let ran = (goal.at.returns-then-whole c).After-common-n in let h = ran.common-n.ensures.inside_s in let it = answered ran (λ k m. word_all k m (text ran) _ (word ran) ran.common-n.ensures c.if-whole.true) in
+    record { verdict = it.0; claim = it.1; inside = omega arith }
 
 pub overflow_sub-result : goal.overflow_sub-result
 overflow_sub-result c = c.common-n.ensures.inside_w
@@ -103,10 +103,10 @@ pub returns-then-n-s : goal.returns-then-n-s
 returns-then-n-s c =
     let ran = (goal.at.returns-then-n-s c).After-common-n in
     let it = answered ran (λ k m. word_more k m (text ran) _ (word ran) ran.common-n.ensures c.if-whole.false c.if-n-s.true) in
-    record { verdict = it.0; claim = it.1 }
+    record { verdict = it.0; claim = it.1; inside = omega arith }
 
 pub returns : goal.returns
 returns c =
     let ran = (goal.at.returns c).After-common-n in
-    let it = answered ran (λ k m. word_refused k m (text ran) _ (word ran) ran.common-n.ensures c.if-whole.false c.if-n-s.false) in
-    record { verdict = it.0; claim = it.1 }
+    let h = ran.common-n.ensures.inside_s in let it = answered ran (λ k m. word_refused k m (text ran) _ (word ran) ran.common-n.ensures c.if-whole.false c.if-n-s.false) in
+    record { verdict = it.0; claim = it.1; inside = omega arith }

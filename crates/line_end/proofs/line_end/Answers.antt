@@ -94,18 +94,18 @@ pub returns-then-cr : goal.returns-then-cr
 returns-then-cr c =
     let so_far = (goal.at.returns-then-cr c).At-loop-i in
     let it = answered (goal.at.At-loop-i so_far).Start (ends so_far c.if-s-i.true 1 (ap (λ (b : Bool). pick b 1 2) c.if-cr.true)) in
-    record { verdict = it.0; claim = it.1 }
+    record { verdict = it.0; claim = it.1; inside = omega arith }
 
 pub returns-else-cr : goal.returns-else-cr
 returns-else-cr c =
     let so_far = (goal.at.returns-else-cr c).At-loop-i in
     let it = answered (goal.at.At-loop-i so_far).Start (ends so_far c.if-s-i.true 2 (ap (λ (b : Bool). pick b 1 2) c.if-cr.false)) in
-    record { verdict = it.0; claim = it.1 }
+    record { verdict = it.0; claim = it.1; inside = omega arith }
 
 pub returns-then-limit-i : goal.returns-then-limit-i
 returns-then-limit-i c =
     let it = answered (goal.at.At-loop-i (so_far (goal.at.returns-then-limit-i c).Joined-c-eq13)).Start (λ k m. dies (goal.at.returns-then-limit-i c).Joined-c-eq13 k m c.if-limit-i.true) in
-    record { verdict = it.0; claim = it.1 }
+    record { verdict = it.0; claim = it.1; inside = omega arith }
 
 pub loop-i-smaller : goal.loop-i-smaller
 loop-i-smaller c = let h = inside (goal.at.loop-i-smaller c).Joined-c-eq13 in omega arith
@@ -122,4 +122,4 @@ returns c =
     (so_far.loop-i.invariant.2 k m
     ∙ from-done k step_line (least_line m) (whole (goal.at.At-loop-i so_far).Start) so_far.loop-i.i _ 0 c.if-s-i.false
     (lf_ends _ _ _ c.if-cr-2.true c.if-c-eq10.true))) in
-    record { verdict = it.0; claim = it.1 }
+    record { verdict = it.0; claim = it.1; inside = omega arith }

@@ -61,19 +61,19 @@ loop-i-init c = (omega arith, λ k m. onward_start k m c.args.n c.args.s.now)
 
 pub returns-then-s-i : goal.returns-then-s-i
 returns-then-s-i c = let l = (goal.at.returns-then-s-i c).At-loop-i in let it = answered l (λ k m. onward-more k m (whole l) (area l) (at l) (omega arith) (omega arith)) in
-    record { verdict = it.0; claim = it.1 }
+    record { verdict = it.0; claim = it.1; inside = omega arith }
 
 pub returns-then-n-i-lt3 : goal.returns-then-n-i-lt3
 returns-then-n-i-lt3 c =
     let l = (goal.at.returns-then-n-i-lt3 c).At-loop-i in
     let it = answered l (λ k m. type_dead k m (whole l) (area l) (bytes l) (at l) (omega arith) (omega arith) (omega arith)) in
-    record { verdict = it.0; claim = it.1 }
+    record { verdict = it.0; claim = it.1; inside = omega arith }
 
 pub returns-then-s-i-2 : goal.returns-then-s-i-2
 returns-then-s-i-2 c =
     let l = (goal.at.returns-then-s-i-2 c).At-loop-i in
     let it = answered l (λ k m. high_more k m (whole l) (area l) (bytes l) (at l) (omega arith) (omega arith) (omega arith)) in
-    record { verdict = it.0; claim = it.1 }
+    record { verdict = it.0; claim = it.1; inside = omega arith }
 
 pub overflow_cast-high : goal.overflow_cast-high
 overflow_cast-high c = omega (arith, bytes (goal.at.overflow_cast-high c).At-loop-i (at (goal.at.overflow_cast-high c).At-loop-i + 1))
@@ -85,13 +85,13 @@ pub returns-then-room-high : goal.returns-then-room-high
 returns-then-room-high c =
     let l = (goal.at.returns-then-room-high c).At-loop-i in
     let it = answered l (λ k m. high_dead k m (whole l) (area l) (bytes l) (at l) (omega arith) (omega arith) (omega arith)) in
-    record { verdict = it.0; claim = it.1 }
+    record { verdict = it.0; claim = it.1; inside = omega arith }
 
 pub returns-then-s-i-3 : goal.returns-then-s-i-3
 returns-then-s-i-3 c =
     let l = (goal.at.returns-then-s-i-3 c).At-loop-i in
     let it = answered l (λ k m. low_more k m (whole l) (area l) (bytes l) (at l) (omega arith) (omega arith) (omega arith) (omega arith)) in
-    record { verdict = it.0; claim = it.1 }
+    record { verdict = it.0; claim = it.1; inside = omega arith }
 
 pub overflow_cast-size : goal.overflow_cast-size
 overflow_cast-size c =
@@ -123,15 +123,15 @@ pub returns-else-is_good : goal.returns-else-is_good
 returns-else-is_good c =
     let l = head (goal.at.returns-else-is_good c).After-is_good in
     let it = answered l (λ k m. low_dead k m (whole l) (area l) (bytes l) (at l) (omega arith) (omega arith) (omega arith) (tested (goal.at.returns-else-is_good c).After-is_good false c.if-is_good.false)) in
-    record { verdict = it.0; claim = it.1 }
+    record { verdict = it.0; claim = it.1; inside = omega arith }
 
 pub returns-then-s-n : goal.returns-then-s-n
 returns-then-s-n c = let l = (goal.at.returns-then-s-n c).At-loop-i in let it = answered l (λ k m. onward-more k m (whole l) (area l) (at l) (omega arith) (omega arith)) in
-    record { verdict = it.0; claim = it.1 }
+    record { verdict = it.0; claim = it.1; inside = omega arith }
 
 pub returns-else-s-n : goal.returns-else-s-n
 returns-else-s-n c =
     let l = (goal.at.returns-else-s-n c).At-loop-i in
     let end : at l ≡ whole l = omega arith in
     let it = answered l (λ k m. ap (onward k m (whole l) (area l)) end ∙ onward_done k m (whole l) (area l) (omega arith)) in
-    record { verdict = it.0; claim = it.1 }
+    record { verdict = it.0; claim = it.1; inside = omega arith }
