@@ -4,10 +4,11 @@
 ghost use Rattle.std.specs.Prelude.{◌≡◌};
 ghost use Rattle.fields.proofs.HeaderVerdict.{verdict as verdict_on};
 ghost use Rattle.answer.specs.Sight.{record_by, reading_of, caller_by};
-ghost use Rattle.reader.specs.Read.{Reads};
+ghost use Rattle.reader.specs.Read.{Reads, ReadsHeader, Sees};
+ghost use Rattle.answer.specs.Headers.{header_of};
 
 use address_block::{addresses_of, record_from};
-use answer::{Reading, Seen, in_bytes, more};
+use answer::{Found, Header, Reading, Seen, Sight, Stop, Verdict, in_bytes, more};
 use block::block;
 use lent::behind;
 use line::line;
@@ -60,4 +61,63 @@ pub fn read(s: &[u8]) -> Reading
         verdict,
         record: record_of(s, seen),
     }
+}
+
+// The whole header that s begins with, before a record is made of it; or why there is none.
+pub fn sight(s: &[u8]) -> Result<Sight, Stop>
+    ensures { Sees s.now result }
+{
+    let seen = see(s);
+    let caller = seen.caller;
+    match seen.verdict {
+        Verdict::Accepted { length, version } => {
+            if version == 2 {
+                return Ok(Sight::Block(Found {
+                    value: caller.kind,
+                    end: length,
+                }));
+            }
+            Ok(Sight::Line(Found {
+                value: caller,
+                end: length,
+            }))
+        }
+        Verdict::More { least } => Err(Stop::More { least }),
+        Verdict::Refused { refusal, place } => Err(Stop::Refused { refusal, place }),
+    }
+}
+
+// The header that is seen in s, with its record.
+pub fn header_of(s: &[u8], sight: Sight) -> Header
+    ensures { result ≡ header_of s.now sight }
+{
+    match sight {
+        Sight::Line(line) => {
+            let caller = line.value;
+            Header {
+                length: line.end,
+                version: 1,
+                record: record_from(
+                    caller.kind,
+                    &caller.source,
+                    &caller.destination,
+                    caller.source_port,
+                    caller.destination_port,
+                ),
+            }
+        }
+        Sight::Block(block) => Header {
+            length: block.end,
+            version: 2,
+            record: addresses_of(block.value, behind(s, 16)),
+        },
+    }
+}
+
+// The whole header that s begins with, or why there is none: demand 3 of document 01, for every s.
+pub fn read_header(s: &[u8]) -> Result<Header, Stop>
+    ensures { ReadsHeader s.now result }
+{
+    let seen = sight(s)?;
+    Ok(header_of(s, seen))
 }
