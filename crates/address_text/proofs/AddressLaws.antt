@@ -1,6 +1,6 @@
 -- How the octets and groups of an address lie in its bytes, and the two ways in which groups are written.
-use Rattle.std.specs.Prelude.{◌≡◌, refl, true, false, List, [], ◌∷◌, ℕ, zero, suc, ◌+◌, ◌≤◌, ◌<◌, length, take, get_or}
-use Rattle.std.proofs.Common.{sym, ap, ap₂, ◌∙◌, arith, leb-true, leb-false}
+use Rattle.std.specs.Prelude.{◌≡◌, refl, true, false, List, [], ◌∷◌, ◌++◌, ℕ, zero, suc, ◌+◌, ◌*◌, ◌≤◌, ◌<◌, length, take}
+use Rattle.std.proofs.Common.{ap, arith, leb-true, leb-false}
 use Rattle.exact.specs.Pick.{pick_by}
 use Rattle.exact.specs.Network.{number, number_at}
 use Rattle.decimal.specs.Decimal.{Plain}
@@ -15,22 +15,16 @@ groups_count n (h ∷ []) size = absurd (omega arith)
 groups_count zero (h ∷ l ∷ bytes) size = absurd (omega arith)
 groups_count (suc n) (h ∷ l ∷ bytes) size = ap suc (groups_count n bytes (omega arith))
 
-pub groups_at : (bytes : List ℕ) (i : ℕ) → i + i + 1 < length bytes → get_or (groups_of bytes) i 0 ≡ number_at bytes (i + i)
-groups_at [] i inside = absurd (omega arith)
-groups_at (h ∷ []) i inside = absurd (omega arith)
-groups_at (h ∷ l ∷ bytes) zero inside = refl
-groups_at (h ∷ l ∷ bytes) (suc i) inside =
-    let high : suc i + suc i ≡ suc (suc (i + i)) = omega arith in
-    let low : suc i + suc i + 1 ≡ suc (suc (i + i + 1)) = omega arith in
-    groups_at bytes i (omega arith)
-    ∙ sym (ap₂ (λ (a b : ℕ). number (get_or (h ∷ l ∷ bytes) a 0) (get_or (h ∷ l ∷ bytes) b 0)) high low)
-
-pub four : (s : List ℕ) → 4 ≤ length s → get_or s 0 0 ∷ get_or s 1 0 ∷ get_or s 2 0 ∷ get_or s 3 0 ∷ [] ≡ take 4 s
-four [] size = absurd (omega arith)
-four (a ∷ []) size = absurd (omega arith)
-four (a ∷ b ∷ []) size = absurd (omega arith)
-four (a ∷ b ∷ c ∷ []) size = absurd (omega arith)
-four (a ∷ b ∷ c ∷ d ∷ s) size = refl
+-- a group more: that of the next two bytes
+pub groups_more : (s : List ℕ) (i : ℕ) → 2 * i + 1 < length s → groups_of (take (2 * (i + 1)) s) ≡ groups_of (take (2 * i) s) ++ number_at s (2 * i) ∷ []
+groups_more [] i inside = absurd (omega arith)
+groups_more (h ∷ []) i inside = absurd (omega arith)
+groups_more (h ∷ l ∷ s) zero inside = refl
+groups_more (h ∷ l ∷ s) (suc i) inside =
+    let more : 2 * (suc i + 1) ≡ suc (suc (2 * (i + 1))) = omega arith in
+    let here : 2 * suc i ≡ suc (suc (2 * i)) = omega arith in
+    let low : suc (suc (2 * i)) + 1 ≡ suc (suc (2 * i + 1)) = omega arith in
+    rw (more, here, low) (ap (λ (gs : List ℕ). number h l ∷ gs) (groups_more s i (omega arith)))
 
 pub plain_some : (f : List ℕ) → Plain f → 1 ≤ length f
 plain_some [] plain = absurd plain

@@ -1,4 +1,3 @@
-pub mod Copies
 pub mod AddressLaws
 pub mod Form
 pub mod Gaps

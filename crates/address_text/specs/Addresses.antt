@@ -1,10 +1,12 @@
--- Addresses as the version 1 writer writes them (document 01, "The text line"; of IPv6 document 02, K3: "by RFC 5952 section 4").
+-- Addresses as the version 1 writer writes them: IPv4 as four decimals, IPv6 by RFC 5952, section 4.
 use Rattle.std.specs.Prelude.{Bool, List, [], ◌∷◌, ◌++◌, ℕ, ◌+◌, leb, take, drop}
 use Rattle.exact.specs.Ascii.{ascii}
 use Rattle.exact.specs.Network.{number}
 use Rattle.exact.specs.Pick.{pick}
 use Rattle.draft.specs.Numeral.{decimal_text, hex_text, joined}
 use Rattle.zero_run.specs.declared.Run.{Run}
+use Rattle.address_text.specs.declared.Inet.{Inet}
+use Rattle.address_text.specs.declared.Inet.TheVariants.{V4, V6}
 use Rattle.zero_run.specs.ZeroRun.{longest_run}
 
 -- "IPv4: four decimals 0 to 255 with dots"
@@ -23,7 +25,7 @@ shortened_text run groups = colon_text (take run.before groups) ++ ascii "::" ++
 abbrev pub is_replaced : Run → Bool
 is_replaced run = leb 2 run.count
 
--- "the longest run of two or more zero groups, the first of equals, as "::"" (document 02, K3: "This replaces the house choice" of eight groups)
+-- "the longest run of two or more zero groups, the first of equals, as "::""
 unfoldable pub groups_text : List ℕ → List ℕ
 groups_text groups = pick (is_replaced (longest_run groups)) (shortened_text (longest_run groups) groups) (colon_text groups)
 
@@ -40,5 +42,6 @@ ip4_text held = octets_text (take 4 held)
 abbrev pub ip6_text : List ℕ → List ℕ
 ip6_text held = groups_text (groups_of (take 16 held))
 
-abbrev pub address_text : (six : Bool) → List ℕ → List ℕ
-address_text six held = pick six (ip6_text held) (ip4_text held)
+abbrev pub address_text : Inet → List ℕ → List ℕ
+address_text V4 held = ip4_text held
+address_text V6 held = ip6_text held

@@ -1,4 +1,4 @@
--- What decimal text is, proved of its definition: text that says the number (document 01, "The text line").
+-- What decimal text is, proved of its definition: text that says the number.
 use Rattle.std.specs.Prelude.{◌≡◌, refl, ℕ, ◌+◌, ◌-◌, ◌≤◌, ◌<◌}
 use Rattle.std.proofs.Common.{arith, lt-ltb}
 use Rattle.decimal.specs.Decimal.{Digit, Digits, value_on, Decimal}

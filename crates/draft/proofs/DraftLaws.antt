@@ -9,7 +9,8 @@ use Rattle.std.proofs.Math.ListN.{length, drop, length-append}
 use Rattle.std.proofs.Math.Seq.{append_snoc, drop-cons, set-append_seam, take-append_seam}
 use borrow.Author.Tests.{lt-ltb}
 use Rattle.exact.specs.Pick.{pick_by}
-use Rattle.draft.specs.Drafts.{Draft, drafted, pushed, appended}
+use Rattle.draft.specs.declared.Draft.{Draft as InMemory}
+use Rattle.draft.specs.Drafts.{Draft, drafted, pushed, appended, text_of, Adds}
 
 pub appended_none : (d : Draft) → appended d [] ≡ d
 unfolding appended
@@ -20,6 +21,23 @@ unfolding appended
 appended_more d [] y = refl
 appended_more d (c ∷ x) y = appended_more (pushed d c) x y
 
+-- ── drafts in memory ──
+pub adds_none : (d : InMemory) → Adds d d []
+unfolding appended
+adds_none d = record { same_bytes = refl; appends = refl }
+
+pub adds_more : {a b c : InMemory} {x y : List ℕ} → Adds a b x → Adds b c y → Adds a c (x ++ y)
+adds_more {a} {b} {c} {x} {y} one two =
+    record {
+      same_bytes = two.same_bytes ∙ one.same_bytes;
+      appends = two.appends ∙ ap (λ (d : Draft). appended d y) one.appends ∙ appended_more (text_of a) x y;
+    }
+
+-- on a draft that was empty
+pub adds_first : {bytes : List ℕ} {a b : InMemory} {x : List ℕ} → text_of a ≡ drafted bytes 0 → Adds a b x → text_of b ≡ appended (drafted bytes 0) x
+adds_first {bytes} {a} {b} {x} empty adds = adds.appends ∙ ap (λ (d : Draft). appended d x) empty
+
+-- ── lengths ──
 pushed-length : (d : Draft) (c : ℕ) → length (pushed d c).bytes ≡ length d.bytes
 unfolding pushed
 pushed-length d c =

@@ -2,6 +2,8 @@
 use Rattle.std.specs.Prelude.{List, [], ◌∷◌, ◌++◌, ℕ, zero, suc, ◌+◌, ◌-◌, ◌/◌, ◌%◌, ltb}
 use Prim.Native.Char.{code}
 use Rattle.exact.specs.Pick.{pick}
+use Rattle.draft.specs.declared.Base.{Base}
+use Rattle.draft.specs.declared.Base.TheVariants.{Decimal, Hex}
 
 -- a digit: "0" to "9", then "a" to "f", in "lower case"
 abbrev pub digit : ℕ → ℕ
@@ -29,3 +31,8 @@ abbrev pub joined : (separator : List ℕ) (text : ℕ → List ℕ) → List �
 joined separator text [] = []
 joined separator text (n ∷ []) = text n
 joined separator text (n ∷ m ∷ ns) = text n ++ separator ++ joined separator text (m ∷ ns)
+
+-- the bases
+abbrev pub base_of : Base → ℕ
+base_of Decimal = 10
+base_of Hex = 16

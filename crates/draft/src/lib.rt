@@ -1,33 +1,36 @@
-// Text composed in lent bytes: each function puts its text from a place on, as far as there is room, and answers the place behind what it put. No public
-// function has a `requires`.
+// Text composed in lent bytes. No public function has a `requires`.
 #![tactic(auto)]
 
 ghost use Rattle.std.specs.Prelude.{◌≡◌, [], ◌∷◌, ◌≤◌, ◌<◌};
-ghost use Rattle.draft.specs.Numeral.{digit as digit_of, numeral, decimal_text, hex_text, joined};
-ghost use Rattle.draft.specs.Drafts.{drafted, appended};
+ghost use Rattle.draft.specs.Numeral.{digit as digit_of, base_of, numeral, joined};
+ghost use Rattle.draft.specs.Drafts.{drafted, text_of, Adds};
 
-// One byte.
-pub fn push(text: &mut [u8], at: usize, byte: u8) -> usize
-    ensures { drafted text.new result ≡ appended (drafted text.old at) (byte ∷ []) }
-{
-    if at < text.len() {
-        text[at] = byte;
-        return at + 1;
-    }
-    at
+static DIGITS: [u8; 16] = *b"0123456789abcdef";
+
+// The bases that numbers are written in.
+#[derive(Clone, Copy)]
+pub enum Base {
+    Decimal,
+    Hex,
 }
 
-// The bytes of a word.
-pub fn push_word(text: &mut [u8], at: usize, word: &[u8]) -> usize
-    ensures { drafted text.new result ≡ appended (drafted text.old at) word.now }
-{
-    let mut end = at;
-    let mut i: usize = 0;
-    while i < word.len() {
-        end = push(text, end, word[i]);
-        i += 1;
+// Bytes that are lent, and how many of them are text so far. Each method puts its text behind that, as far as there is room.
+#[derive(Drop)]
+pub struct Draft<'a> {
+    pub bytes: &'a mut [u8],
+    pub length: usize,
+}
+
+impl Base {
+    fn get(self) -> u64
+        ensures value { result ≡ base_of self }
+        ensures range { (2 ≤ result) × (result ≤ 16) }
+    {
+        match self {
+            Base::Decimal => 10,
+            Base::Hex => 16,
+        }
     }
-    end
 }
 
 // A digit, in a base up to 16.
@@ -35,66 +38,62 @@ fn digit(d: u64) -> u8
     requires { d < 16 }
     ensures { result ≡ digit_of d }
 {
-    if d < 10 {
-        b'0' + d as u8
-    } else {
-        b'a' + (d - 10) as u8
+    DIGITS[d as usize]
+}
+
+impl<'a> Draft<'a> {
+    // No text yet.
+    pub fn over(bytes: &'a mut [u8]) -> Draft<'a>
+        ensures same_bytes { result.bytes.ghost_name ≡ bytes.entry.ghost_name }
+        ensures text { text_of result ≡ drafted bytes.old 0 }
+    {
+        Draft { bytes, length: 0 }
     }
-}
 
-// A number in a base.
-fn push_number(text: &mut [u8], at: usize, base: u64, n: u64) -> usize
-    requires { (2 ≤ base) × (base ≤ 16) }
-    ensures { drafted text.new result ≡ appended (drafted text.old at) (numeral base n) }
-{
-    let small = n < base;
-    if small {
-        return push(text, at, digit(n));
-    }
-    let at = push_number(text, at, base, n / base);
-    push(text, at, digit(n % base))
-}
-
-fn wide(n: u16) -> u64
-    ensures { result ≡ n }
-{
-    n as u64
-}
-
-// Numbers in a base, with a byte between two.
-fn push_numbers(text: &mut [u8], at: usize, base: u64, separator: u8, numbers: &[u16]) -> usize
-    requires { (2 ≤ base) × (base ≤ 16) }
-    ensures { drafted text.new result ≡ appended (drafted text.old at) (joined (separator ∷ []) (numeral base) numbers.now) }
-{
-    let mut end = at;
-    let mut i: usize = 0;
-    while i < numbers.len() {
-        if 0 < i {
-            end = push(text, end, separator);
+    // One byte.
+    pub fn push(&mut self, byte: u8)
+        ensures { Adds self.old self.new (byte ∷ []) }
+    {
+        if self.length < self.bytes.len() {
+            self.bytes[self.length] = byte;
+            self.length += 1;
         }
-        end = push_number(text, end, base, wide(numbers[i]));
-        i += 1;
     }
-    end
-}
 
-// A number in decimal.
-pub fn push_decimal(text: &mut [u8], at: usize, n: u64) -> usize
-    ensures { drafted text.new result ≡ appended (drafted text.old at) (decimal_text n) }
-{
-    push_number(text, at, 10, n)
-}
+    // The bytes of a word.
+    pub fn push_word(&mut self, word: &[u8])
+        ensures { Adds self.old self.new word.now }
+    {
+        for &byte in word {
+            self.push(byte);
+        }
+    }
 
-// Numbers in decimal, with a byte between two.
-pub fn push_decimals(text: &mut [u8], at: usize, separator: u8, numbers: &[u16]) -> usize
-    ensures { drafted text.new result ≡ appended (drafted text.old at) (joined (separator ∷ []) decimal_text numbers.now) }
-{
-    push_numbers(text, at, 10, separator, numbers)
-}
+    // A number in a base.
+    pub fn push_number(&mut self, base: Base, n: u64)
+        ensures { Adds self.old self.new (numeral (base_of base) n) }
+    {
+        let radix = base.get();
+        let small = n < radix;
+        if small {
+            self.push(digit(n));
+            return;
+        }
+        self.push_number(base, n / radix);
+        self.push(digit(n % radix));
+    }
 
-// Numbers in hex, with a byte between two.
-pub fn push_hexes(text: &mut [u8], at: usize, separator: u8, numbers: &[u16]) -> usize
-    ensures { drafted text.new result ≡ appended (drafted text.old at) (joined (separator ∷ []) hex_text numbers.now) }
-{
-    push_numbers(text, at, 16, separator, numbers)
+    // Numbers in a base, with a byte between two.
+    pub fn push_numbers(&mut self, base: Base, separator: u8, numbers: &[u16])
+        ensures { Adds self.old self.new (joined (separator ∷ []) (numeral (base_of base)) numbers.now) }
+    {
+        let [first, rest @ ..] = numbers else {
+            return;
+        };
+        self.push_number(base, u64::from(*first));
+        for &n in rest {
+            self.push(separator);
+            self.push_number(base, u64::from(n));
+        }
+    }
 }

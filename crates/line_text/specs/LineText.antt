@@ -1,4 +1,4 @@
--- The version 1 line of a record (document 01, "The text line").
+-- The version 1 line of a record.
 use Rattle.std.specs.Prelude.{List, [], ◌++◌, ℕ}
 use Rattle.exact.specs.Ascii.{ascii}
 use Rattle.record.specs.declared.Transport.TheVariants.{Stream, Datagram}
@@ -6,7 +6,13 @@ use Rattle.record.specs.declared.Kind.{Kind}
 use Rattle.record.specs.declared.Kind.TheVariants.{Local, Unspecified, Ip4, Ip6, Unix}
 use Rattle.record.specs.declared.Record.{Record}
 use Rattle.draft.specs.Numeral.{decimal_text}
+use Rattle.address_text.specs.declared.Inet.{Inet}
+use Rattle.address_text.specs.declared.Inet.TheVariants.{V4, V6}
 use Rattle.address_text.specs.Addresses.{ip4_text, ip6_text}
+
+abbrev pub family_word : Inet → List ℕ
+family_word V4 = ascii "TCP4"
+family_word V6 = ascii "TCP6"
 
 -- "space, source address, space, destination address, space, source port, space, destination port, CR LF"
 abbrev pub tcp_text : (word : List ℕ) (address : List ℕ → List ℕ) → Record → List ℕ

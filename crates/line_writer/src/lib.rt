@@ -9,8 +9,9 @@ ghost use Rattle.line_writer.specs.Demand.{Means, ReadsBack};
 
 use answer::{Fault, is_written};
 use clean::plain;
+use draft::Draft;
 use lent::put;
-use line_text::line;
+use line_text::push_line;
 use record::{Kind, Record, Transport};
 
 // Whether version 1 has a form for the kind.
@@ -60,12 +61,14 @@ pub fn write_line(record: Record, out: &mut [u8]) -> Result<usize, Fault>
         × ReadsBack «record» (told_written result) out.new }
 {
     let mut text = [0u8; 104];
-    let n = line(record, &mut text);
+    let mut draft = Draft::over(&mut text);
+    push_line(&mut draft, &record);
+    let n = draft.length;
     let answer = check(record, n, out.len());
     let written = is_written(answer);
     if !written {
         return answer;
     }
-    put(&text[..n], out, 0);
+    put(&draft.bytes[..n], out, 0);
     answer
 }

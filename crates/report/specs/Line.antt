@@ -1,4 +1,4 @@
--- The program's line (document 01, "The program").
+-- The program's line.
 use Rattle.std.specs.Prelude.{List, ◌++◌, ℕ}
 use Rattle.exact.specs.Ascii.{ascii}
 use Rattle.record.specs.declared.Kind.{Kind}

@@ -4,72 +4,53 @@
 ghost use Rattle.std.specs.Prelude.{◌≡◌, ◌≤◌, ℕ, length, take, IfOk, OnOk, OnErr, IfSome};
 ghost use Rattle.std.specs.Io.{ReadsAtMost};
 ghost use Rattle.std.specs.Io.KnownBytes.{Appends, Consumes};
-ghost use Rattle.record.specs.Kinds.{transport_word, kind_word};
-ghost use Rattle.draft.specs.Drafts.{drafted, appended};
+ghost use Rattle.record.specs.Kinds.{kind_word};
+ghost use Rattle.draft.specs.Drafts.{Adds};
 ghost use Rattle.report.specs.Line.{answer_line};
 
-use answer::{Reading, Verdict};
-use draft::{push, push_decimal, push_word};
+use answer::{Reading, Verdict, refusal_number};
+use draft::{Base, Draft};
 use record::{Kind, Transport};
 use std::io;
 use std::io::{Read, Write};
 
-fn push_transport(text: &mut [u8], at: usize, transport: Transport) -> usize
-    ensures { drafted text.new result ≡ appended (drafted text.old at) (transport_word transport) }
-{
-    match transport {
-        Transport::Stream => push_word(text, at, b"-stream"),
-        Transport::Datagram => push_word(text, at, b"-datagram"),
-    }
-}
-
 // The word of a kind.
-fn push_kind(text: &mut [u8], at: usize, kind: Kind) -> usize
-    ensures { drafted text.new result ≡ appended (drafted text.old at) (kind_word kind) }
+fn kind_word(kind: Kind) -> &'static [u8]
+    ensures { result.now ≡ kind_word kind }
 {
     match kind {
-        Kind::Local => push_word(text, at, b"local"),
-        Kind::Unspecified => push_word(text, at, b"unspecified"),
-        Kind::Ip4(transport) => {
-            let at = push_word(text, at, b"ip4");
-            push_transport(text, at, transport)
-        }
-        Kind::Ip6(transport) => {
-            let at = push_word(text, at, b"ip6");
-            push_transport(text, at, transport)
-        }
-        Kind::Unix(transport) => {
-            let at = push_word(text, at, b"unix");
-            push_transport(text, at, transport)
-        }
+        Kind::Local => b"local",
+        Kind::Unspecified => b"unspecified",
+        Kind::Ip4(Transport::Stream) => b"ip4-stream",
+        Kind::Ip4(Transport::Datagram) => b"ip4-datagram",
+        Kind::Ip6(Transport::Stream) => b"ip6-stream",
+        Kind::Ip6(Transport::Datagram) => b"ip6-datagram",
+        Kind::Unix(Transport::Stream) => b"unix-stream",
+        Kind::Unix(Transport::Datagram) => b"unix-datagram",
     }
 }
 
-// Puts `more`, `refused 3 at 13`, or `accepted 47 ip4-stream`, and LF, at the front of the text, as far as there is room, and answers how many bytes it
-// put. 9 + 20 + 1 + 13 + 1 = 44 are room enough.
-pub fn answer_line(reading: Reading, text: &mut [u8]) -> usize
-    ensures { (drafted text.new result ≡ appended (drafted text.old 0) (answer_line reading))
-        × (length (answer_line reading) ≤ 44) }
+// Puts `more`, `refused 3 at 13`, or `accepted 47 ip4-stream`, and LF, behind what the draft has. 9 + 20 + 1 + 13 + 1 = 44 bytes are room enough.
+// (No Display: std says what is written only of a call that succeeds, and this one cannot fail.)
+pub fn answer_line(draft: &mut Draft, reading: &Reading)
+    ensures line { Adds draft.old draft.new (answer_line reading.now) }
+    ensures fits { length (answer_line reading.now) ≤ 44 }
 {
-    let verdict = reading.verdict;
-    let record = reading.record;
-    let kind = record.kind;
-    match verdict {
+    match reading.verdict {
         Verdict::Accepted { length, version: _ } => {
-            let at = push_word(text, 0, b"accepted ");
-            let at = push_decimal(text, at, length as u64);
-            let at = push(text, at, b' ');
-            let at = push_kind(text, at, kind);
-            push(text, at, b'\n')
+            draft.push_word(b"accepted ");
+            draft.push_number(Base::Decimal, length as u64);
+            draft.push(b' ');
+            draft.push_word(kind_word(reading.record.kind));
+            draft.push(b'\n');
         }
-        Verdict::More { least: _ } => push_word(text, 0, b"more\n"),
+        Verdict::More { least: _ } => draft.push_word(b"more\n"),
         Verdict::Refused { refusal, place } => {
-            let number = answer::refusal_number(refusal) as u64;
-            let at = push_word(text, 0, b"refused ");
-            let at = push_decimal(text, at, number);
-            let at = push_word(text, at, b" at ");
-            let at = push_decimal(text, at, place as u64);
-            push(text, at, b'\n')
+            draft.push_word(b"refused ");
+            draft.push_number(Base::Decimal, u64::from(refusal_number(refusal)));
+            draft.push_word(b" at ");
+            draft.push_number(Base::Decimal, place as u64);
+            draft.push(b'\n');
         }
     }
 }
@@ -119,8 +100,10 @@ pub fn print_reading<W: Write>(writer: &mut W, reading: Reading) -> io::Result<(
     ensures failed { OnErr result ((n : ℕ) × Appends (W.contents writer.old) (W.contents writer.new) (take n (answer_line reading))) }
 {
     let mut text = [0u8; 44];
-    let n = answer_line(reading, &mut text);
-    write_whole(writer, &text[..n])
+    let mut draft = Draft::over(&mut text);
+    answer_line(&mut draft, &reading);
+    let n = draft.length;
+    write_whole(writer, &draft.bytes[..n])
 }
 
 #[cfg(test)]

@@ -1,3 +1,2 @@
-pub mod Behind
 pub mod Longest
 pub mod RunLaws

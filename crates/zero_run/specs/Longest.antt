@@ -1,4 +1,4 @@
--- Which run `longest_run` is, by its properties: "the longest (…), the first of equals" (document 02, K3), so that every other is shorter, or as long and later.
+-- Which run `longest_run` is, by its properties: "the longest (…), the first of equals" (RFC 5952, section 4.2), so that every other is shorter, or as long and later.
 use Rattle.std.specs.Prelude.{◌≡◌, List, ℕ, ◌≤◌, take, drop, replicate}
 use Rattle.zero_run.specs.declared.Run.{Run}
 

@@ -1,34 +1,36 @@
-// The run of zero groups in an IPv6 address that "::" takes the place of (document 02, K3). No public function has a `requires`.
+// The run of zero groups in an IPv6 address that "::" takes the place of (RFC 5952, section 4.2). No public function has a `requires`.
 #![tactic(auto)]
 
-ghost use Rattle.std.specs.Prelude.{◌≡◌};
-ghost use Rattle.zero_run.specs.ZeroRun.{longest_run};
+ghost use Rattle.std.specs.Prelude.{◌≡◌, ◌+◌, ◌<◌, ◌≤◌, IfSome};
+ghost use Rattle.zero_run.specs.ZeroRun.{zeros_with, longest_run, some_run};
 
 // A run of zero groups: how many groups stand before it, and how many it has.
-#[derive(Drop)]
+#[derive(Clone, Copy)]
 pub struct Run {
     pub before: usize,
     pub count: usize,
 }
 
-// The longest run of zeros, the first of equals; it has none where no group is zero. The groups are gone through from the last to the first, so that of
-// equals the first is kept.
-pub fn longest_run(groups: [u16; 8]) -> Run
-    ensures { result ≡ longest_run groups }
+// How many zeros there are from a group on, if behind it there are so many.
+fn zeros_from(group: u16, behind: usize) -> usize
+    requires { behind < 8 }
+    ensures { result ≡ zeros_with group behind }
+{
+    if group == 0 { behind + 1 } else { 0 }
+}
+
+// The longest run of zeros, the first of equals. The groups are gone through from the last to the first, so that of equals the first is kept.
+pub fn longest_run(groups: [u16; 8]) -> Option<Run>
+    ensures longest { result ≡ some_run (longest_run groups) }
+    ensures inside { IfSome result (λ run. run.before + run.count ≤ 8) }
 {
     let mut run = Run {
         before: 8,
         count: 0,
     };
-    let mut zeros: usize = 0;
-    let mut i: usize = 8;
-    while 0 < i {
-        i -= 1;
-        if groups[i] == 0 {
-            zeros += 1;
-        } else {
-            zeros = 0;
-        }
+    let mut zeros = 0;
+    for i in (0..8).rev() {
+        zeros = zeros_from(groups[i], zeros);
         if run.count <= zeros {
             run = Run {
                 before: i,
@@ -36,5 +38,5 @@ pub fn longest_run(groups: [u16; 8]) -> Run
             };
         }
     }
-    run
+    if run.count == 0 { None } else { Some(run) }
 }

@@ -1,10 +1,7 @@
-use Rattle.std.proofs.Common.{◌≡◌, ◌-◌, ◌≤◌, take, replicate}
+-- The groups before the index are those of as many pairs of bytes.
+use Rattle.std.proofs.Common.{◌≡◌, ◌*◌, length, take}
 use Rattle.address_text.specs.Addresses.{groups_of}
-use Rattle.address_text.proofs.Copies.{over}
 use Rattle.address_text.proofs.groups_of.Given as goal
 
 abbrev pub invariant-loop-i : goal.invariant-loop-i
-invariant-loop-i l = (l.i ≤ 8) × (l.groups ≡ over (groups_of (take 16 l.held)) (replicate 8 0) l.i)
-
-abbrev pub decreases-loop-i : goal.decreases-loop-i
-decreases-loop-i l = 8 - l.i
+invariant-loop-i l = (length l.group-items ≡ 8) × (take l.i l.group-items ≡ groups_of (take (2 * l.i) l.held))

@@ -1,11 +1,12 @@
 -- What is written is what `check` answers. A refusal leaves the output as it was; else the text is put at its front.
-use Rattle.std.proofs.Common.{◌≡◌, ap, ◌∙◌, List, ℕ, ◌≤◌, arith, length, take, length-take}
+use Rattle.std.proofs.Common.{◌≡◌, ap, ◌∙◌, List, ℕ, ◌≤◌, arith, length, take, length-take, replicate}
 use Rattle.record.specs.declared.Record.{Record}
 use Rattle.record.specs.Records.{Sized}
 use Rattle.lent.specs.Placed.{placed}
 use Rattle.lent.proofs.PlacedLaws.{placed_start}
 use Rattle.record.proofs.InMemory.{in_memory}
-use Rattle.draft.proofs.DraftLaws.{draft_size, draft_says, draft_room}
+use Rattle.draft.specs.Drafts.{drafted, appended, text_of}
+use Rattle.draft.proofs.DraftLaws.{adds_first, draft_size, draft_says, draft_room}
 use Rattle.answer.specs.Answers.{WriteAnswer, output_after}
 use Rattle.answer.proofs.OutputLaws.{output_refused, is_wrote, output_written, promised}
 use Rattle.answer.specs.OutputLaws.{Promised}
@@ -14,19 +15,25 @@ use Rattle.line_writer.specs.Written.{line_answer}
 use Rattle.line_writer.proofs.LineLaws.{written_fits}
 use Rattle.line_writer.specs.Demand.{Means, ReadsBack}
 use Rattle.line_writer.proofs.Demand.{answer_means, line_accepted, reads_back}
-use Rattle.line_writer.proofs.write_line.Goals.{After-check-answer, After-is_written-written, After-line-n, After-put, Else-not-written, Start}
+use Rattle.line_writer.proofs.write_line.Goals.{After-check-answer, After-is_written-written, After-push_line, After-put, Else-not-written, Start}
 use Rattle.line_writer.proofs.write_line.Goals as goal
 
 -- ── the text ──
-module _ (c : After-line-n) where
+module _ (c : After-push_line) where
   abbrev start : Start
-  start = (goal.at.After-line-n c).Start
+  start = (goal.at.After-push_line c).Start
 
   abbrev the_record : Record
   the_record = start.args.«record»
 
   abbrev text : List ℕ
-  text = c.line-n.new.text
+  text = c.push_line.new.draft.bytes.now
+
+  abbrev end : ℕ
+  end = c.push_line.new.draft.length
+
+  composed : text_of c.push_line.new.draft ≡ appended (drafted (replicate 104 0) 0) (written_line the_record)
+  composed = adds_first c.over-draft.ensures.text c.push_line.ensures
 
   sized : Sized the_record
   sized = in_memory the_record _ start.well_formed.0
@@ -34,19 +41,19 @@ module _ (c : After-line-n) where
   fits : length (written_line the_record) ≤ 104
   fits = written_fits the_record sized
 
-  size : c.line-n.result ≡ length (written_line the_record)
-  size = let l = fits in draft_size _ (written_line the_record) c.line-n.ensures (omega arith)
+  size : end ≡ length (written_line the_record)
+  size = let l = fits in draft_size _ (written_line the_record) composed (omega arith)
 
-  room : c.line-n.result ≤ length text
-  room = let l = fits in draft_room _ (written_line the_record) c.line-n.ensures (omega arith)
+  room : end ≤ length text
+  room = let l = fits in draft_room _ (written_line the_record) composed (omega arith)
 
-  says : take c.line-n.result text ≡ written_line the_record
-  says = let l = fits in draft_says _ (written_line the_record) c.line-n.ensures (omega arith)
+  says : take end text ≡ written_line the_record
+  says = let l = fits in draft_says _ (written_line the_record) composed (omega arith)
 
 -- ── the answer ──
 module _ (c : After-check-answer) where
-  abbrev written : After-line-n
-  written = (goal.at.After-check-answer c).After-line-n
+  abbrev written : After-push_line
+  written = (goal.at.After-check-answer c).After-push_line
 
   abbrev out : List ℕ
   out = (start written).args.out.now
@@ -63,16 +70,13 @@ module _ (c : After-check-answer) where
       c.check-answer.ensures
 
 pub check-answer-requires : goal.check-answer-requires
-check-answer-requires c = size (goal.at.check-answer-requires c).After-line-n
-
-pub slice_bounds-text-end : goal.slice_bounds-text-end
-slice_bounds-text-end c = let r = room (written (goal.at.slice_bounds-text-end c).After-check-answer) in omega arith
+check-answer-requires c = size (goal.at.check-answer-requires c).After-push_line
 
 pub slice_bounds-put-end : goal.slice_bounds-put-end
 slice_bounds-put-end c =
     let d = written (goal.at.slice_bounds-put-end c).After-check-answer in
     let r = room d in
-    omega (arith, length-take d.line-n.result (text d))
+    omega (arith, length-take (end d) (text d))
 
 pub returns-then-not-written : goal.returns-then-not-written
 returns-then-not-written c =
