@@ -1,29 +1,20 @@
 -- What a whole version 2 header answers.
-use mathlib.Core.Path.{◌≡◌, ap, ◌∙◌}
-use mathlib.Core.List.{List}
-use Prim.Native.Nat.{ℕ, ◌+◌, ◌≤◌}
-use native.Mathlib.Omega.{arith}
-use lib.ListN.{length, take, drop}
-use lib.Seq.{take-add, drop_at, length-take-le}
+use Rattle.std.specs.Prelude.{◌≡◌, List, ℕ, ◌+◌, ◌≤◌, length, take, drop}
+use Rattle.std.proofs.Common.{ap, ap₂, ◌∙◌, arith, take-add, drop_at, length-take-le}
 use Rattle.exact.specs.Claim.{accepted}
 use Rattle.exact.specs.Field.{shift}
+use Rattle.record.specs.declared.Kind.{Kind}
 use Rattle.record.specs.declared.Record.{Record}
+use Rattle.address_block.specs.AddressBlock.{block_record}
 use Rattle.fields.specs.BlockFields.{blocked}
-use Rattle.answer.specs.declared.Seen.{Seen}
 use Rattle.answer.specs.Answers.{area_of}
-use Rattle.answer.specs.Sight.{Sees}
-use Rattle.answer.proofs.StageLaws.{sees_as}
 
--- a header of n bytes that says the record y and the TLV area a
-pub as_block : (s : List ℕ) (n : ℕ) (x y : Record) (a : List ℕ) {seen : Seen} → x ≡ y → area_of 2 y.kind (take n s) ≡ a
-    → Sees s (accepted (blocked x (area_of 2 x.kind (take n s))) n) seen
-    → Sees s (shift n (accepted (blocked y a) 0)) seen
-as_block s n x y a e here answer =
+-- a header of n bytes that says the record r and the TLV area a
+pub whole_block : (s : List ℕ) (k : Kind) (n : ℕ) (r : Record) (a : List ℕ) → block_record k (drop 16 s) ≡ r → area_of 2 k (take n s) ≡ a
+    → accepted (blocked (block_record k (drop 16 s)) (area_of 2 k (take n s))) n ≡ shift n (accepted (blocked r a) 0)
+whole_block s k n r a e here =
     let zero_more : n ≡ n + 0 = omega arith in
-    sees_as answer
-    (ap (λ (z : Record). accepted (blocked z (area_of 2 z.kind (take n s))) n) e
-    ∙ ap (λ (t : List ℕ). accepted (blocked y t) n) here
-    ∙ ap (λ (m : ℕ). accepted (blocked y a) m) zero_more)
+    ap₂ (λ (x : Record) (t : List ℕ). accepted (blocked x t) n) e here ∙ ap (λ (m : ℕ). accepted (blocked r a) m) zero_more
 
 -- m bytes of s behind the place `at`
 pub area_at : (s : List ℕ) (at m : ℕ) → at ≤ length s → drop at (take (at + m) s) ≡ take m (drop at s)

@@ -3,7 +3,7 @@
 use mathlib.Core.Path.{◌≡◌, refl, sym, ap, ◌∙◌}
 use mathlib.Core.List.{List}
 use mathlib.Core.Bool.{true}
-use Prim.Native.Nat.{ℕ, ◌+◌, ◌-◌, ◌≤◌}
+use Prim.Native.Nat.{ℕ, ◌+◌, ◌-◌, ◌≤◌, ◌<◌}
 use native.Mathlib.Omega.{arith}
 use lib.ListN.{length, take, drop, length-drop}
 use Rattle.exact.specs.Claim.{Verdict, accepted, more, refused, AllBytes}
@@ -19,16 +19,16 @@ use Rattle.address_block.specs.AddressBlock.{block_record}
 use Rattle.header.specs.Header.{Header}
 use Rattle.fields.specs.LineFields.{Headers}
 use Rattle.fields.specs.Lengths.{fits}
+use Rattle.fields.proofs.LengthField.{fits_least}
+use Rattle.fields.proofs.BlockFields.{area-least}
 use Rattle.fields.specs.BlockFields.{blocked, address, port, port-least, area, from_area, asks_area, asks_port, asks_ports, asks_address, addresses}
-use Rattle.answer.specs.declared.Seen.{Seen}
 use Rattle.answer.specs.Answers.{area_of}
-use Rattle.answer.specs.Sight.{Sees}
-use Rattle.answer.proofs.StageLaws.{sees_as, as_more, as_refused, as_accepted}
+use Rattle.exact.proofs.Stage.{on, stage_accepted}
 use Rattle.block_body.proofs.Parts.{port_at, record_at, record_at_lem}
-use Rattle.block_body.proofs.Takes.{Short, Takes, next, next_short, then_short, then_at}
+use Rattle.block_body.proofs.Takes.{Short, Takes, next, next_short, then_short, then_at, short_at}
 use Rattle.block_body.proofs.Leaves.{takes_count, takes_spelled, takes_port, area_judged}
 use Rattle.block_body.proofs.KindLaws.{block_kind}
-use Rattle.block_body.proofs.AcceptedLaws.{as_block, area_at}
+use Rattle.block_body.proofs.AcceptedLaws.{whole_block, area_at}
 
 reach-spell : (v : Verdict ℕ) (t : List ℕ) → reach (spell v t) ≡ reach v
 reach-spell (accepted x n) t = refl
@@ -80,6 +80,14 @@ module _ (k : Kind) (n : ℕ) where
         ∙ then_at _ (λ q. (from_area k n from to p q).verdict) o (port_at o) (takes_port (asks_area k n) k).full s b (at + w + w + o) (omega arith)
         ∙ ap (λ (j : ℕ). shift j ((from_area k n from to p q).verdict (drop j s))) sum
 
+-- more while the address block is short: what is missing of the length
+pub addresses_few : (k : Kind) (n : ℕ) (s : List ℕ) → AllBytes s → fits (block_length k) n ≡ true → 16 ≤ length s → length s < 16 + block_length k
+    → more (16 + n - length s) ≡ shift 16 ((addresses k n).verdict (drop 16 s))
+addresses_few k n s b fit head few =
+    let a = block_length k in
+    let sum : 16 + n - length s ≡ 16 + a - length s + asks_area k n = omega (arith, fits_least a n fit, area-least a n fit, few) in
+    ap more sum ∙ short_at (addresses k n).verdict a (asks_area k n) (addresses_short k n) s b 16 head few
+
 -- s has the address block of the kind k, of a bytes, and the length n fits it
 pub record Reached (k : Kind) (n a : ℕ) (s : List ℕ) : Type 0 where
   pub bytes : AllBytes s
@@ -115,11 +123,11 @@ module _ {k : Kind} {n a : ℕ} {s : List ℕ} (here : Reached k n a s) where
       ∙ ap (λ (m : ℕ). spell (judge 9 0 (n - m) behind) behind) here.block
       ∙ sym (area_judged (block_length k) n behind here.fit)
 
-  pub tlvs_more : {x : Seen} (j : ℕ) → more j ≡ judge 9 0 (n - a) behind → Sees s (more j) x → Sees s said x
-  tlvs_more j e h = sees_as (as_more tlvs says s (16 + a) j (spelt (more j) e) h) at_tlvs
+  pub tlvs_more : (j : ℕ) → more j ≡ judge 9 0 (n - a) behind → more j ≡ said
+  tlvs_more j e = ap (on tlvs says s (16 + a)) (spelt (more j) e) ∙ at_tlvs
 
-  pub tlvs_refused : {x : Seen} (p : ℕ) → refused 9 p ≡ judge 9 0 (n - a) behind → Sees s (refused 9 (16 + a + p)) x → Sees s said x
-  tlvs_refused p e h = sees_as (as_refused tlvs says s (16 + a) 9 p (spelt (refused 9 p) e) h) at_tlvs
+  pub tlvs_refused : (p : ℕ) → refused 9 p ≡ judge 9 0 (n - a) behind → refused 9 (16 + a + p) ≡ said
+  tlvs_refused p e = ap (on tlvs says s (16 + a)) (spelt (refused 9 p) e) ∙ at_tlvs
 
   -- the TLV area is the part of the header behind the address block
   area_said : (m : ℕ) → area_of 2 k (take (16 + a + m) s) ≡ take m behind
@@ -128,13 +136,12 @@ module _ {k : Kind} {n a : ℕ} {s : List ℕ} (here : Reached k n a s) where
       ∙ ap (λ (j : ℕ). drop (16 + j) (take (16 + a + m) s)) (sym here.block)
       ∙ area_at s (16 + a) m here.whole
 
-  pub tlvs_accepted : (v m : ℕ) {x : Seen} → accepted v m ≡ judge 9 0 (n - a) behind
-      → Sees s (accepted (blocked (block_record k (drop 16 s)) (area_of 2 k (take (16 + a + m) s))) (16 + a + m)) x → Sees s said x
-  tlvs_accepted v m e h =
-      sees_as
-      (as_accepted tlvs says s (16 + a) (take m behind) m (spelt (accepted v m) e)
-      (as_block s (16 + a + m) (block_record k (drop 16 s)) (record_at k 16 s) (take m behind) (record_at_lem k 16 s) (area_said m) h))
-      at_tlvs
+  pub tlvs_accepted : (v m : ℕ) → accepted v m ≡ judge 9 0 (n - a) behind
+      → accepted (blocked (block_record k (drop 16 s)) (area_of 2 k (take (16 + a + m) s))) (16 + a + m) ≡ said
+  tlvs_accepted v m e =
+      whole_block s k (16 + a + m) (record_at k 16 s) (take m behind) (record_at_lem k 16 s) (area_said m)
+      ∙ stage_accepted tlvs says s (16 + a) (take m behind) m _ (spelt (accepted v m) e) refl
+      ∙ at_tlvs
 
   -- they lie in the bytes
   pub tlvs_inside : (v : Verdict ℕ) → v ≡ judge 9 0 (n - a) behind → 16 + a + reach v ≤ length s

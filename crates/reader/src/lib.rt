@@ -1,18 +1,37 @@
 // The reader of PROXY protocol headers of both versions: what lent received bytes are. No public function has a `requires`.
 #![tactic(auto)]
 
-ghost use Rattle.std.specs.Prelude.{◌≡◌};
+ghost use Rattle.std.specs.Prelude.{◌≡◌, List, ℕ};
 ghost use Rattle.fields.proofs.HeaderVerdict.{verdict as verdict_on};
-ghost use Rattle.answer.specs.Sight.{record_by, reading_of, caller_by};
+ghost use Rattle.answer.specs.Sight.{record_by, reading_of, caller_by, Sees as SeesOld};
 ghost use Rattle.reader.specs.Read.{Reads, ReadsHeader, Sees};
-ghost use Rattle.answer.specs.Headers.{header_of};
+ghost use Rattle.answer.specs.Headers.{header_of, told_block};
 
 use address_block::{addresses_of, record_from};
-use answer::{Found, Header, Reading, Seen, Sight, Stop, Verdict, in_bytes, more};
+use answer::{
+    Found, Header, Reading, Seen, Sight, Stop, Verdict, in_bytes, more, of_kind, refused,
+};
 use block::block;
 use lent::behind;
 use line::line;
-use record::Record;
+use record::{Kind, Record};
+
+// What is seen of a block.
+fn seen_of(found: Result<Found<Kind>, Stop>) -> Seen
+    ensures { (s : List ℕ) → SeesOld s (told_block s found) result }
+{
+    match found {
+        Ok(block) => Seen {
+            verdict: Verdict::Accepted {
+                length: block.end,
+                version: 2,
+            },
+            caller: of_kind(block.value),
+        },
+        Err(Stop::More { least }) => more(least),
+        Err(Stop::Refused { refusal, place }) => refused(refusal, place),
+    }
+}
 
 // What is seen in the bytes so far: demand 3 of document 01, for every s, before a record is made. The caller is the
 // verdict's, down to the bytes that no address uses.
@@ -26,7 +45,7 @@ pub fn see(s: &[u8]) -> Seen
         return more(15);
     }
     let text = s[0] == b'P';
-    if text { line(s) } else { block(s) }
+    if text { line(s) } else { seen_of(block(s)) }
 }
 
 // The record of what is seen in s.

@@ -1,4 +1,5 @@
 -- The first byte tells the version, and each version's reader answers its field's verdict.
+use Rattle.answer.proofs.StageLaws.{sees_as}
 use Rattle.reader.proofs.ReadLaws.{reads_as, none_yet, of_line, of_block}
 use Rattle.reader.proofs.see.Goals as goal
 
@@ -14,5 +15,5 @@ returns-then-text c =
 
 pub returns-else-text : goal.returns-else-text
 returns-else-text c =
-    let it = reads_as c.block.ensures (of_block c.args.s.now c.if-empty.false c.if-text.false) in
+    let it = reads_as (sees_as (c.seen_of.ensures c.args.s.now) c.block.ensures) (of_block c.args.s.now c.if-empty.false c.if-text.false) in
     record { reads = it.0; caller = it.1 }

@@ -1,0 +1,2 @@
+pub mod KindLaws
+pub mod SignatureLaws

@@ -1,0 +1,30 @@
+-- A block's caller has only its kind.
+use Rattle.std.proofs.Common.{sym, ap, ◌∙◌, take, drop, Err}
+use Rattle.exact.specs.Claim.{accepted}
+use Rattle.address_block.specs.AddressBlock.{block_record}
+use Rattle.fields.specs.BlockFields.{blocked}
+use Rattle.answer.specs.declared.Caller.{Caller}
+use Rattle.answer.specs.Answers.{area_of}
+use Rattle.answer.specs.Headers.{told_block}
+use Rattle.answer.proofs.StageLaws.{sees_as}
+use Rattle.reader.proofs.seen_of.Goals as goal
+
+pub returns-in-Ok : goal.returns-in-Ok
+returns-in-Ok c s =
+    let n = c.in-Ok.block.end in
+    sees_as
+    (record {
+      answers =
+          record {
+            told = ap (λ (x : Caller). accepted (blocked (block_record x.kind (drop 16 s)) (area_of 2 x.kind (take n s))) n) c.of_kind.ensures;
+            unused = tt;
+          };
+      caller = c.of_kind.ensures;
+    })
+    (sym (ap (told_block s) c.in-Ok.is))
+
+pub returns-in-Err-More : goal.returns-in-Err-More
+returns-in-Err-More c s = sees_as (c.more.ensures s) (sym (ap (told_block s) (c.in-Err-More.is ∙ ap Err c.in-Err-More.field-0-is)))
+
+pub returns-in-Err-Refused : goal.returns-in-Err-Refused
+returns-in-Err-Refused c s = sees_as (c.refused.ensures s) (sym (ap (told_block s) (c.in-Err-Refused.is ∙ ap Err c.in-Err-Refused.field-0-is)))
