@@ -1,5 +1,5 @@
 -- The verdict from byte 12 on, by what bytes 12 and 13 say.
-use Rattle.std.specs.Prelude.{◌≡◌, refl, Bool, true, false, List, [], ℕ, ◌+◌, ◌≤◌, ◌<◌, ltb, length, get_or, drop, Option, Some, None, Result, Ok, Err}
+use Rattle.std.specs.Prelude.{◌≡◌, refl, Bool, true, false, List, [], ℕ, ◌≤◌, ◌<◌, ltb, length, get_or, drop, Option, Some, None, Result, Ok, Err}
 use Rattle.std.proofs.Common.{sym, ap, ◌∙◌, arith, ltb-true, ltb-false, length-drop, get_or-drop, drop-drop, drop_of_length-le}
 use Rattle.exact.specs.Claim.{Verdict, AllBytes}
 use Rattle.exact.specs.Field.{shift, after}

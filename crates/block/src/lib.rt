@@ -13,6 +13,7 @@ use exact::{Scan, literal};
 use record::{Kind, family_of};
 
 const LOCAL: u8 = 0x20;
+
 const PROXY: u8 = 0x21;
 
 // The kind by the command in byte 12 and by byte 13, which is not looked at under LOCAL.

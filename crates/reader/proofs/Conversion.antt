@@ -1,7 +1,6 @@
 -- What is seen, in the two forms.
-use Rattle.std.specs.Prelude.{◌≡◌, refl, List, ℕ, ◌⊎◌, Result, Ok, Err, take}
+use Rattle.std.specs.Prelude.{◌≡◌, List, ℕ, ◌⊎◌, Result, Ok, Err}
 use Rattle.std.proofs.Common.{sym, ap, ◌∙◌, subst, inl, inr}
-use Rattle.header.specs.Header as Whole
 use Rattle.fields.proofs.HeaderVerdict.{verdict}
 use Rattle.answer.specs.declared.Refusal.{Refusal}
 use Rattle.answer.specs.declared.Verdict.{Verdict}

@@ -28,8 +28,10 @@ fn seen_of(found: Result<Found<Kind>, Stop>) -> Seen
             },
             caller: of_kind(block.value),
         },
-        Err(Stop::More { least }) => more(least),
-        Err(Stop::Refused { refusal, place }) => refused(refusal, place),
+        Err(stop) => match stop {
+            Stop::More { least } => more(least),
+            Stop::Refused { refusal, place } => refused(refusal, place),
+        },
     }
 }
 

@@ -1,5 +1,5 @@
 -- The address block has the kind's length, and the TLVs behind it are a region.
-use Rattle.std.proofs.Common.{ℕ, ◌+◌, ◌-◌, ◌≤◌, ◌<◌, ◌≡◌, sym, ap, ◌∙◌, List, arith, length, drop}
+use Rattle.std.proofs.Common.{ℕ, ◌+◌, ◌-◌, ◌≤◌, ◌≡◌, sym, ap, ◌∙◌, List, arith, length, drop}
 use Rattle.exact.specs.Parser.{reach}
 use Rattle.exact.specs.Scans.{present}
 use Rattle.exact.specs.declared.Scan.{Scan}

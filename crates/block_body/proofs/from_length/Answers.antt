@@ -1,9 +1,8 @@
 -- Each answer is that of the kind's fields behind the length.
-use Rattle.std.proofs.Common.{ℕ, ◌≡◌, sym, ap, ◌∙◌, drop}
+use Rattle.std.proofs.Common.{ℕ, sym, ap, ◌∙◌, drop}
 use Rattle.std.proofs.lemmas.Result.{err_from_is_err_and}
 use Rattle.exact.specs.Claim.{more}
 use Rattle.exact.specs.Field.{shift}
-use Rattle.exact.specs.Network.{number_at}
 use Rattle.record.specs.Kinds.{block_length}
 use Rattle.record.specs.Records.{bare}
 use Rattle.fields.specs.BlockFields.{addresses, skipped_bytes}

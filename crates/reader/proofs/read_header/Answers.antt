@@ -1,5 +1,5 @@
 -- What is seen, with its record.
-use Rattle.std.proofs.Common.{sym, subst, ◌∙◌}
+use Rattle.std.proofs.Common.{sym, subst}
 use Rattle.std.specs.Prelude.{Ok}
 use Rattle.answer.specs.declared.Header.{Header}
 use Rattle.reader.specs.Read.{ReadsHeader}

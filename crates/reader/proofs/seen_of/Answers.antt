@@ -1,11 +1,11 @@
 -- A block's caller has only its kind.
-use Rattle.std.proofs.Common.{sym, ap, ◌∙◌, take, drop, Err}
+use Rattle.std.proofs.Common.{sym, ap, ◌∙◌, take, drop}
 use Rattle.exact.specs.Claim.{accepted}
 use Rattle.address_block.specs.AddressBlock.{block_record}
 use Rattle.fields.specs.BlockFields.{blocked}
 use Rattle.answer.specs.declared.Caller.{Caller}
 use Rattle.answer.specs.Answers.{area_of}
-use Rattle.answer.specs.Headers.{told_block}
+use Rattle.answer.specs.Headers.{told_block, told_stop}
 use Rattle.answer.proofs.StageLaws.{sees_as}
 use Rattle.reader.proofs.seen_of.Goals as goal
 
@@ -23,8 +23,8 @@ returns-in-Ok c s =
     })
     (sym (ap (told_block s) c.in-Ok.is))
 
-pub returns-in-Err-More : goal.returns-in-Err-More
-returns-in-Err-More c s = sees_as (c.more.ensures s) (sym (ap (told_block s) (c.in-Err-More.is ∙ ap Err c.in-Err-More.field-0-is)))
+pub returns-in-More : goal.returns-in-More
+returns-in-More c s = sees_as (c.more.ensures s) (sym (ap (told_block s) c.in-Err.is ∙ ap told_stop c.in-More.is))
 
-pub returns-in-Err-Refused : goal.returns-in-Err-Refused
-returns-in-Err-Refused c s = sees_as (c.refused.ensures s) (sym (ap (told_block s) (c.in-Err-Refused.is ∙ ap Err c.in-Err-Refused.field-0-is)))
+pub returns-in-Refused : goal.returns-in-Refused
+returns-in-Refused c s = sees_as (c.refused.ensures s) (sym (ap (told_block s) c.in-Err.is ∙ ap told_stop c.in-Refused.is))
