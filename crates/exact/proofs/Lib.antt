@@ -5,6 +5,7 @@ pub mod MachineLaws
 pub mod Numbered
 pub mod Parser
 pub mod Pick
+pub mod ScanLaws
 pub mod Stage
 pub mod Theorem
 pub mod Unique

@@ -1,4 +1,4 @@
-// IPv6 text, as document 01 has it ("The text line"): a group and a colon part by turns, until the byte that ends the address.
+// IPv6 text: a group and a colon part by turns, until the byte that ends the address (`Address` of specs/Address.antt).
 // No public function has a `requires`.
 //
 // An address so far is the first count of its groups, with zeros behind them. "::" counts as one group, a zero; gap counts the groups up to
@@ -9,7 +9,7 @@ ghost use Rattle.std.specs.Prelude.{◌≡◌, ℕ, ◌+◌, ◌^◌, ◌<◌, l
 ghost use Rattle.exact.specs.Claim.{Claim};
 ghost use Rattle.exact.specs.Ended.{Ended};
 ghost use Rattle.exact.specs.Machine.{run};
-ghost use Rattle.exact.specs.Scans.{told};
+ghost use Rattle.exact.specs.Scans.{told, Inside};
 ghost use Rattle.ip6.specs.Address.{Address, Ending};
 ghost use Rattle.ip6.specs.Machine.{start, digits, behind, least_address, step};
 ghost use Rattle.ip6.specs.Partial.{Sized, sofar, gathered_of, spread};
@@ -19,19 +19,12 @@ use colon_part::{Part, colon_part, least_behind};
 use exact::Scan;
 use hex_digits::hex_value;
 
-// Zeros for all that "::" stands for: the groups behind it move to the end, the last one first.
+// Zeros for all that "::" stands for: the groups behind it change places with those that are not there.
 fn spread_out(groups: &mut [u16; 8], count: usize, gap: usize)
     requires { Sized (sofar groups.old count gap) }
     ensures { groups.new ≡ spread (sofar groups.old count gap) }
 {
-    let missing = 8 - count;
-    let mut i = count;
-    while gap < i {
-        i -= 1;
-        let v = groups[i];
-        groups[i] = 0;
-        groups[i + missing] = v;
-    }
+    groups[gap..].rotate_right(8 - count);
 }
 
 // What the functions below answer: one of these numbers, and in place the length of an accepted address, how few bytes could finish it, or
@@ -157,6 +150,7 @@ fn begun(s: &[u8], end: u8, groups: &mut [u16; 8], place: &mut usize) -> u8
 pub fn address(s: &[u8], end: u8) -> Scan<[u16; 8]>
     ensures verdict { (k m : ℕ) → told k m result ≡ run k (step end) (least_address m) s.now start }
     ensures claim { (k : ℕ) → Ending end → Claim (Ended Address end) (λ u. k) (told k 0 result) s.now }
+    ensures inside { Inside (length s.now) 4 result }
 {
     let mut groups = [0u16; 8];
     let mut place: usize = 0;

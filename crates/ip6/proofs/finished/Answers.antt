@@ -1,5 +1,5 @@
 -- `finished` answers as the machine's move at the end: by whether "::" came, and how many groups did.
-use Rattle.std.proofs.Common.{refl, sym, ap, ◌∙◌, List, ℕ, ◌+◌}
+use Rattle.std.proofs.Common.{sym, ap, ◌∙◌, List, ℕ, ◌+◌}
 use Rattle.exact.specs.Claim.{accepted}
 use Rattle.ip6.specs.Answer.{closed}
 use Rattle.ip6.proofs.Spread.{finish_full, finish_few, finish_gapped}
