@@ -24,28 +24,27 @@ pub enum Scan<T> {
 fn common(s: &[u8], w: &[u8]) -> usize
     ensures { Common s.now w.now result }
 {
-    let most = if w.len() < s.len() { w.len() } else { s.len() };
-    let mut i: usize = 0;
-    while i < most {
+    let most = s.len().min(w.len());
+    for i in 0..most {
         if s[i] != w[i] {
             return i;
         }
-        i += 1;
     }
-    i
+    most
 }
 
-// The bytes of w, one after the other; where w is empty that is no byte, accepted at once.
+// The bytes of w, one after the other; where w is empty that is no byte, accepted at once. The whole word is compared at once; byte by byte only
+// what is none.
 pub fn literal(s: &[u8], w: &[u8]) -> Scan<()>
     ensures verdict { (k m : ℕ) → present k m result ≡ literal_of k m 0 w.now s.now }
     ensures claim { (k : ℕ) → Claim (Valueless (λ f. f ≡ w.now)) (λ u. k) (present k 0 result) s.now }
     ensures inside { Inside (length s.now) (length w.now) result }
 {
-    let n = common(s, w);
-    let whole = n == w.len();
+    let whole = s.starts_with(w);
     if whole {
-        return Scan::Accepted((), n);
+        return Scan::Accepted((), w.len());
     }
+    let n = common(s, w);
     if n == s.len() {
         return Scan::More(w.len() - n);
     }

@@ -19,6 +19,7 @@ pub fn line_end(s: &[u8], limit: usize) -> Scan<()>
 {
     let mut i: usize = 0;
     let mut cr = false;
+    // This form is promised (docs/DECISIONS.md, docs/TRACE.md): a loop over the line's bytes that yields the end's place by break.
     let end = loop {
         if s.len() <= i {
             return Scan::More(if cr { 1 } else { 2 });

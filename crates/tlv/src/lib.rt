@@ -15,13 +15,7 @@ use exact::Scan;
 fn is_good(size: usize, room: usize) -> bool
     ensures { result ≡ good size room }
 {
-    if size == room {
-        return true;
-    }
-    if room < 3 {
-        return false;
-    }
-    size <= room - 3
+    size == room || (3 <= room && size <= room - 3)
 }
 
 // Judges the area of n bytes that s begins with; bytes behind it are not looked at. More with all that is missing, if s is shorter and can
@@ -32,6 +26,7 @@ pub fn region(s: &[u8], n: usize) -> Scan<()>
     ensures inside { Inside (length s.now) n result }
 {
     let mut i: usize = 0;
+    // A loop over places: the answer is the place of a dead type or length byte, which an iterator over TLVs or a slice pattern's rest does not say.
     while i < n {
         if s.len() <= i {
             return Scan::More(n - s.len());
@@ -69,9 +64,5 @@ pub fn region(s: &[u8], n: usize) -> Scan<()>
 pub fn well_formed(s: &[u8]) -> bool
     ensures { (result ≡ true → WellFormed s.now) × (WellFormed s.now → result ≡ true) }
 {
-    match region(s, s.len()) {
-        Scan::Accepted(_, _) => true,
-        Scan::More(_) => false,
-        Scan::Refused(_) => false,
-    }
+    matches!(region(s, s.len()), Scan::Accepted(_, _))
 }

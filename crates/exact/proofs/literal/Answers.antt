@@ -1,6 +1,11 @@
 -- `literal` goes by the bytes that s and w have in common; its claim is that of an exact verdict on a leaf.
-use Rattle.std.proofs.Common.{ℕ, zero, suc, ◌+◌, ◌-◌, ◌≤◌, ◌<◌, ◌≡◌, sym, ap, ◌∙◌, List, [], ◌∷◌, add-one, arith, length, drop, get_or, length-drop, drop_of_length-le, drop-cons, eq-eqb, ne_eqb}
-use Rattle.exact.specs.Claim.{Verdict, accepted, more, refused, Claim}
+use Rattle.std.proofs.Common.{ℕ, zero, suc, ◌+◌, ◌-◌, ◌≤◌, ◌<◌, ◌≡◌, refl, true≢false, sym, ap, ◌∙◌, subst, Bool, true, false, List, [], ◌∷◌, ◌++◌, add-one, arith, length, take, drop, get_or, length-drop, length-append, length-take-le, take-append-drop, drop_of_length-le, drop-cons, eqb, eq-eqb, ne_eqb}
+use Rattle.std.specs.List.{starts_with}
+use Rattle.std.proofs.lemmas.Bool.Decides.{Decides-eqb}
+use Rattle.std.proofs.lemmas.Slice.Eq.{starts_is}
+use Rattle.std.proofs.lemmas.List.{ext_get_or, get_or_append_left}
+use lib.Seq.{get_or-take}
+use Rattle.exact.specs.Claim.{Verdict, accepted, more, refused, AllBytes, Claim}
 use Rattle.exact.specs.Field.{flat}
 use Rattle.exact.proofs.MachineLaws.{from_start, from_end, from-go, from-done, from-dead}
 use Rattle.exact.specs.Machine.{Move, go, done, dead, from}
@@ -8,7 +13,6 @@ use Rattle.exact.proofs.Parser.{bytes_of}
 use Rattle.exact.specs.LiteralLaws.{literal_exact}
 use Rattle.exact.specs.Literal.{Common, Literal, literal, least_literal, step_literal}
 use Rattle.exact.proofs.Theorem.{leaf_claims}
-use Rattle.exact.proofs.literal.Goals.{After-common-n}
 use Rattle.exact.proofs.literal.Goals as goal
 
 abbrev step : List ℕ → ℕ → Move (List ℕ) ℕ
@@ -74,39 +78,64 @@ module _ (k m : ℕ) (s : List ℕ) (n : ℕ) where
         ∙ from-dead k step least s n (drop n w) (omega arith)
         (word_dead w n (get_or s n 0) (omega arith) (c.apart (omega arith) (omega arith))))
 
+-- ── the whole word, in common or at the front ──
+front_of : (s w : List ℕ) → Common s w (length w) → s ≡ w ++ drop (length w) s
+front_of s w c =
+    let size : length (take (length w) s) ≡ length w = length-take-le (length w) s c.inside_s in
+    let same : take (length w) s ≡ w =
+    ext_get_or 0 (take (length w) s) w size (λ i h. get_or-take (length w) s i 0 (omega arith) ∙ c.same i (omega arith)) in
+    sym (take-append-drop (length w) s) ∙ ap (λ (l : List ℕ). l ++ drop (length w) s) same
+
+common_of : (s w r : List ℕ) → s ≡ w ++ r → Common s w (length w)
+common_of s w r e =
+    record {
+      inside_s = let h = ap length e in let l = length-append w r in omega arith;
+      inside_w = omega arith;
+      same = λ i h. ap (λ (l : List ℕ). get_or l i 0) e ∙ get_or_append_left w r 0 i h;
+      apart = λ h l. absurd (omega arith);
+    }
+
+module _ (s w : List ℕ) (r : Bool) (e : r ≡ starts_with eqb s w) where
+  starts : r ≡ true → Common s w (length w)
+  starts t = common_of s w _ ((starts_is Decides-eqb s w r e).0 t)
+
+  -- a word that is not at the front is not all in common
+  part_of : r ≡ false → (n : ℕ) → Common s w n → n ≡ length w → ⊥
+  part_of f n c all =
+      let t = (starts_is Decides-eqb s w r e).1 _ (front_of s w (subst (Common s w) all c)) in
+      true≢false (sym t ∙ f)
+
 -- ── the function ──
-module _ (c : After-common-n) where
-  abbrev text : List ℕ
-  text = c.args.s.now
+-- a verdict has its claim
+claimed : (s w : List ℕ) → AllBytes w → {v : ℕ → ℕ → Verdict ℕ} → ((k m : ℕ) → v k m ≡ verdict k m w s)
+    → (k : ℕ) → Claim (Literal 0 w) (λ u. k) (v k 0) s
+claimed s w bytes e k = leaf_claims k (Literal 0 w) (λ f a l. rw l.0 bytes) s (e k 0) (literal_exact k 0 (flat 0) w s)
 
-  abbrev word : List ℕ
-  word = c.args.w.now
+pub returns-then-whole-clause-verdict : goal.returns-then-whole-clause-verdict
+returns-then-whole-clause-verdict c k m =
+    let s = c.args.s.now in
+    let w = c.args.w.now in
+    word_all k m s (length w) w (starts s w _ c.starts_with-whole.ensures.value c.if-whole.true) refl
 
-  -- a verdict, with its claim
-  answered : {v : ℕ → ℕ → Verdict ℕ} → ((k m : ℕ) → v k m ≡ verdict k m word text)
-      → ((k m : ℕ) → v k m ≡ verdict k m word text) × ((k : ℕ) → Claim (Literal 0 word) (λ u. k) (v k 0) text)
-  answered e = (
-    e,
-    λ k.
-        leaf_claims k (Literal 0 word) (λ f a l. rw l.0 (bytes_of word c.type_inv.w)) text (e k 0)
-        (literal_exact k 0 (flat 0) word text),
-  )
+pub returns-then-whole-clause-claim : goal.returns-then-whole-clause-claim
+returns-then-whole-clause-claim c = claimed _ _ (bytes_of _ c.type_inv.w) (returns-then-whole-clause-verdict c)
 
-pub returns-then-whole : goal.returns-then-whole
-returns-then-whole c = let ran = (goal.at.returns-then-whole c).After-common-n in let h = ran.common-n.ensures.inside_s in let it = answered ran (λ k m. word_all k m (text ran) _ (word ran) ran.common-n.ensures c.if-whole.true) in
-    record { verdict = it.0; claim = it.1; inside = omega arith }
+pub returns-then-n-s-clause-verdict : goal.returns-then-n-s-clause-verdict
+returns-then-n-s-clause-verdict c k m =
+    let s = c.args.s.now in
+    let w = c.args.w.now in
+    let met = c.common-n.ensures in
+    word_more k m s _ w met (part_of s w _ c.starts_with-whole.ensures.value c.if-whole.false _ met) c.if-n-s.true
 
-pub overflow_sub-result : goal.overflow_sub-result
-overflow_sub-result c = c.common-n.ensures.inside_w
+pub returns-then-n-s-clause-claim : goal.returns-then-n-s-clause-claim
+returns-then-n-s-clause-claim c = claimed _ _ (bytes_of _ c.type_inv.w) (returns-then-n-s-clause-verdict c)
 
-pub returns-then-n-s : goal.returns-then-n-s
-returns-then-n-s c =
-    let ran = (goal.at.returns-then-n-s c).After-common-n in
-    let it = answered ran (λ k m. word_more k m (text ran) _ (word ran) ran.common-n.ensures c.if-whole.false c.if-n-s.true) in
-    record { verdict = it.0; claim = it.1; inside = omega arith }
+pub returns-clause-verdict : goal.returns-clause-verdict
+returns-clause-verdict c k m =
+    let s = c.args.s.now in
+    let w = c.args.w.now in
+    let met = c.common-n.ensures in
+    word_refused k m s _ w met (part_of s w _ c.starts_with-whole.ensures.value c.if-whole.false _ met) c.if-n-s.false
 
-pub returns : goal.returns
-returns c =
-    let ran = (goal.at.returns c).After-common-n in
-    let h = ran.common-n.ensures.inside_s in let it = answered ran (λ k m. word_refused k m (text ran) _ (word ran) ran.common-n.ensures c.if-whole.false c.if-n-s.false) in
-    record { verdict = it.0; claim = it.1; inside = omega arith }
+pub returns-clause-claim : goal.returns-clause-claim
+returns-clause-claim c = claimed _ _ (bytes_of _ c.type_inv.w) (returns-clause-verdict c)

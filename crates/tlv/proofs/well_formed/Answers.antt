@@ -1,6 +1,8 @@
 -- `well_formed` goes by what `region` ensures: bytes judged as an area of their own length are accepted exactly if they are well-formed.
 use Rattle.std.proofs.Common.{ℕ, ◌≡◌, refl, true, false, List, ◌↔◌, arith, length}
 use Rattle.exact.specs.Scans.{present}
+use Rattle.exact.specs.declared.Scan.{Scan}
+use Rattle.exact.specs.declared.Scan.TheVariants as scan
 use Rattle.tlv.specs.Tlv.{WellFormed}
 use Rattle.tlv.specs.Whole.{Accepted}
 use Rattle.tlv.proofs.Whole.{judged}
@@ -20,8 +22,10 @@ module _ (c : After-region) where
 pub returns-in-Accepted : goal.returns-in-Accepted
 returns-in-Accepted c = (λ t. (says (goal.at.returns-in-Accepted c).After-region).0 (rw c.in-Accepted.is tt), λ w. refl)
 
-pub returns-in-More : goal.returns-in-More
-returns-in-More c = denies (goal.at.returns-in-More c).After-region (rw c.in-More.is (λ y. y))
+none : (x : Scan (Unit {0})) → ((a : Unit {0}) (n : ℕ) → x ≡ scan.Accepted a n → ⊥) → Accepted (present 0 0 x) → ⊥
+none (scan.Accepted a n) not y = not a n refl
+none (scan.More n) not y = y
+none (scan.Refused p) not y = y
 
-pub returns-in-Refused : goal.returns-in-Refused
-returns-in-Refused c = denies (goal.at.returns-in-Refused c).After-region (rw c.in-Refused.is (λ y. y))
+pub returns-in_default : goal.returns-in_default
+returns-in_default c = denies (goal.at.returns-in_default c).After-region (none _ c.in_default.not-Accepted)
