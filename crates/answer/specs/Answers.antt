@@ -52,11 +52,6 @@ abbrev pub sized_answer : (limited text room : ℕ) → WriteAnswer
 sized_answer limited text room =
     pick (ltb limited 65536) (pick (leb text room) (wrote text) (refuses 14)) (refuses 13)
 
--- whether anything is written
-abbrev pub is_written : WriteAnswer → Bool
-is_written (wrote n) = true
-is_written (refuses k) = false
-
 -- "Refusals leave the output untouched; on success bytes past the written length stay"
 abbrev pub output_after : WriteAnswer → (text output : List ℕ) → List ℕ
 output_after (wrote n) text output = text ++ drop n output

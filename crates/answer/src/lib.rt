@@ -3,7 +3,7 @@
 
 ghost use Rattle.std.specs.Prelude.{◌≡◌, List, ℕ};
 ghost use Rattle.exact.specs.Claim.{more as more_of, refused as refused_of};
-ghost use Rattle.answer.specs.Answers.{number_of, fault_number, told_written, is_written};
+ghost use Rattle.answer.specs.Answers.{number_of, fault_number};
 ghost use Rattle.answer.specs.Sight.{kind_only, in_bytes, Sees};
 ghost use Rattle.answer.specs.Places.{placed};
 
@@ -174,16 +174,6 @@ pub fn refusal_number(refusal: Refusal) -> u8
         Refusal::Family => 7,
         Refusal::Length => 8,
         Refusal::Tlv => 9,
-    }
-}
-
-// Whether a writer has written anything.
-pub fn is_written(written: Result<usize, Fault>) -> bool
-    ensures { result ≡ is_written (told_written written) }
-{
-    match written {
-        Ok(_) => true,
-        Err(_) => false,
     }
 }
 
