@@ -22,12 +22,12 @@ use Rattle.header.specs.Demand.{Judges}
 use Rattle.head_writer.specs.Head.{head_of}
 use Rattle.fields.specs.BlockFields.{blocked}
 use Rattle.answer.specs.Answers.{WriteAnswer, wrote, refuses, output_after}
-use Rattle.answer.proofs.OutputLaws.{not_wrote, written_front}
+use Rattle.answer.proofs.OutputLaws.{not_wrote, written_front, Within}
 use Rattle.checksum.specs.Checksum.{values_of, zeroed, checksum_of, Right}
 use Rattle.checksum.proofs.ChecksumLaws.{values_append, zeroed_one, checksum_parts}
 use Rattle.checksum.specs.Checked.{judged, Checks, matched}
 use Rattle.block_writer.specs.Written.{block_of, written_block, CarriedByBlock}
-use Rattle.block_writer.proofs.OrderLaws.{in_order_lem}
+use Rattle.block_writer.proofs.OrderLaws.{in_order_lem, in_order_within}
 use Rattle.block_writer.proofs.Demand.{block_read}
 use Rattle.checked_writer.specs.Written.{with_tlv, checksum_for, checked_area, written_checked, request_test, CarriedChecked, checked_answer}
 use Rattle.checked_writer.proofs.RequestLaws.{request_test_lem}
@@ -162,3 +162,7 @@ reads_back r area before after sized output n is t =
     subst (λ (f : List ℕ). Checks (f ++ t) (judged (accepted (blocked (with_checksum Matched r) (checked_area r area)) n))) (sym front)
     (subst (λ (m : ℕ). Checks (written_checked r area ++ t) (judged (accepted (blocked (with_checksum Matched r) (checked_area r area)) m))) a.1
     (checked_read r area a.0 t))
+
+-- what is written fits the room
+pub checked_within : (r : Record) (area : List ℕ) (room : ℕ) → Within room (checked_answer r area room)
+checked_within r area = in_order_within (clean_test r) (request_test r.kind area) (length (block_of r (checked_area r area))) (length (written_checked r area))

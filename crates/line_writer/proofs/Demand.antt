@@ -16,7 +16,7 @@ use Rattle.header.specs.Demand.{Judges}
 use Rattle.fields.specs.LineFields.{lined}
 use Rattle.fields.proofs.Exactness.{one_header}
 use Rattle.answer.specs.Answers.{WriteAnswer, wrote, refuses, output_after}
-use Rattle.answer.proofs.OutputLaws.{not_wrote, written_front}
+use Rattle.answer.proofs.OutputLaws.{not_wrote, written_front, Within, fits_at_last}
 use Rattle.line_text.specs.LineText.{written_line}
 use Rattle.line_writer.specs.Written.{HasForm, unspecified, tcp4, tcp6, has_form, CarriedByLine, line_answer}
 use Rattle.line_writer.proofs.LineLaws.{line_of}
@@ -64,6 +64,11 @@ answer_means r room sized =
     pick_by P (leb (length (written_line r)) room) (λ t. written carried (leb-true _ _ t)) (λ t. too_short carried (leb-false _ _ t)))
     (λ test. unused form (λ plain. never (sym test ∙ (plain_test_lem r sized).1 plain))))
     (λ test. no_form (λ form. never (sym test ∙ form_test r.kind form)))
+
+-- what is written fits the room
+pub line_within : (r : Record) (room : ℕ) → Within room (line_answer r room)
+line_within r room =
+    pick_by (Within room) (has_form r.kind) (λ t. pick_by (Within room) (plain_test r) (λ t. fits_at_last _ room 14) (λ t. tt)) (λ t. tt)
 
 -- it accepts only the records that version 1 can carry, where there is room, and answers the line's length
 pub line_accepted : (r : Record) (room n : ℕ) → Sized r → line_answer r room ≡ wrote n → CarriedByLine r × (length (written_line r) ≡ n) × (n ≤ room)

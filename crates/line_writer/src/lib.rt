@@ -1,4 +1,4 @@
-// The version 1 writer (document 01, "The text line"). No public function has a `requires`.
+// The writer of a version 1 header, a text line. No public function has a `requires`.
 #![tactic(auto)]
 
 ghost use Rattle.std.specs.Prelude.{◌≡◌, length};
@@ -7,7 +7,7 @@ ghost use Rattle.line_text.specs.LineText.{written_line};
 ghost use Rattle.line_writer.specs.Written.{has_form, line_answer};
 ghost use Rattle.line_writer.specs.Demand.{Means, ReadsBack};
 
-use answer::{Fault, is_written};
+use answer::Fault;
 use clean::plain;
 use draft::Draft;
 use lent::put;
@@ -19,31 +19,24 @@ fn has_form(kind: Kind) -> bool
     ensures { result ≡ has_form kind }
 {
     match kind {
-        Kind::Local => false,
-        Kind::Unspecified => true,
-        Kind::Ip4(transport) => match transport {
-            Transport::Stream => true,
-            Transport::Datagram => false,
-        },
-        Kind::Ip6(transport) => match transport {
-            Transport::Stream => true,
-            Transport::Datagram => false,
-        },
-        Kind::Unix(_) => false,
+        Kind::Unspecified | Kind::Ip4(Transport::Stream) | Kind::Ip6(Transport::Stream) => true,
+        Kind::Local
+        | Kind::Ip4(Transport::Datagram)
+        | Kind::Ip6(Transport::Datagram)
+        | Kind::Unix(_) => false,
     }
 }
 
 // What is answered for a line of n bytes and an output of this size: a kind without a form (10), unused bytes or ports that are not zero (11), an output
 // that is too short (14), or the length.
-fn check(record: Record, n: usize, room: usize) -> Result<usize, Fault>
-    requires { n ≡ length (written_line «record») }
-    ensures { told_written result ≡ line_answer «record» room }
+fn check(from: Record, n: usize, room: usize) -> Result<usize, Fault>
+    requires { n ≡ length (written_line from) }
+    ensures { told_written result ≡ line_answer from room }
 {
-    let kind = record.kind;
-    if !has_form(kind) {
+    if !has_form(from.kind) {
         return Err(Fault::Form);
     }
-    if !plain(record) {
+    if !plain(from) {
         return Err(Fault::Unused);
     }
     if room < n {
@@ -54,21 +47,17 @@ fn check(record: Record, n: usize, room: usize) -> Result<usize, Fault>
 
 // Writes the record's line at the front of the output, and answers its length. Or refuses, in this order, a kind without a form (10), unused bytes or
 // ports that are not zero (11) and an output that is too short (14), and leaves the output as it was.
-pub fn write_line(record: Record, out: &mut [u8]) -> Result<usize, Fault>
-    ensures { (told_written result ≡ line_answer «record» (length out.old))
-        × (out.new ≡ output_after (line_answer «record» (length out.old)) (written_line «record») out.old)
-        × Means «record» (length out.old) (told_written result)
-        × ReadsBack «record» (told_written result) out.new }
+pub fn write_line(from: Record, out: &mut [u8]) -> Result<usize, Fault>
+    ensures { (told_written result ≡ line_answer from (length out.old))
+        × (out.new ≡ output_after (line_answer from (length out.old)) (written_line from) out.old)
+        × Means from (length out.old) (told_written result)
+        × ReadsBack from (told_written result) out.new }
 {
     let mut text = [0u8; 104];
     let mut draft = Draft::over(&mut text);
-    push_line(&mut draft, &record);
+    push_line(&mut draft, &from);
     let n = draft.length;
-    let answer = check(record, n, out.len());
-    let written = is_written(answer);
-    if !written {
-        return answer;
-    }
+    check(from, n, out.len())?;
     put(&draft.bytes[..n], out, 0);
-    answer
+    Ok(n)
 }

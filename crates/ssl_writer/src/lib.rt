@@ -1,4 +1,4 @@
-// The writer of TLV 0x20's value (document 02, K2). No public function has a `requires`.
+// The writer of TLV 0x20's value. No public function has a `requires`.
 #![tactic(auto)]
 
 ghost use Rattle.std.specs.Prelude.{◌≡◌, ◌+◌, ◌≤◌, min, length};
@@ -7,7 +7,7 @@ ghost use Rattle.ssl_writer.specs.Written.{pieces_of};
 ghost use Rattle.ssl_writer.specs.Steps.{size_if, size_all, answer_by, piece_placed, piece_behind};
 ghost use Rattle.ssl_writer.specs.Writes.{Writes};
 
-use answer::{Fault, is_written};
+use answer::Fault;
 use lent::{least, put};
 use network32::network_bytes;
 use ssl_reader::lacks_version;
@@ -112,11 +112,7 @@ pub fn write_ssl(
         signature: signature.len(),
         key: key.len(),
     };
-    let answer = check(client, present, sizes, out.len());
-    let written = is_written(answer);
-    if !written {
-        return answer;
-    }
+    let n = check(client, present, sizes, out.len())?;
     put(&[client], out, 0);
     put(&network_bytes(verify), out, 1);
     let one = put_piece(present.version, 0x21, version, out, 5);
@@ -124,5 +120,5 @@ pub fn write_ssl(
     let three = put_piece(present.cipher, 0x23, cipher, out, two);
     let four = put_piece(present.signature, 0x24, signature, out, three);
     put_piece(present.key, 0x25, key, out, four);
-    answer
+    Ok(n)
 }

@@ -1,4 +1,4 @@
-// The writer of the stored form, versions 1 and 2 (document 01, "Stored form, version 1"; document 02, K7). No public function has a `requires`.
+// The writer of the stored form, versions 1 and 2. No public function has a `requires`.
 #![tactic(auto)]
 
 ghost use Rattle.std.specs.Prelude.{◌≡◌, length};
@@ -7,7 +7,7 @@ ghost use Rattle.stored_form.specs.Stored.{stored, store_answer};
 ghost use Rattle.stored_form.specs.Meaning.{Means, LoadsBack};
 
 use address_block_writer::put_addresses;
-use answer::{Fault, is_written};
+use answer::Fault;
 use clean::clean;
 use kind_code::{code_of, state_byte};
 use lent::put;
@@ -16,18 +16,16 @@ use stored_form::{StoredVersion, head_length, keeps, version_byte};
 
 // What is answered for an output of this size: a record that is not clean (11), a state that the version cannot say (24), an output that is too short (14),
 // or the length.
-fn check(record: Record, version: StoredVersion, room: usize) -> Result<usize, Fault>
-    ensures { told_written result ≡ store_answer version «record» room }
+fn check(from: Record, version: StoredVersion, room: usize) -> Result<usize, Fault>
+    ensures { told_written result ≡ store_answer version from room }
 {
-    let kind = record.kind;
-    let checksum = record.checksum;
-    if !clean(record) {
+    if !clean(from) {
         return Err(Fault::Unused);
     }
-    if !keeps(version, checksum) {
+    if !keeps(version, from.checksum) {
         return Err(Fault::State);
     }
-    let n = head_length(version) + block_length(kind);
+    let n = head_length(version) + block_length(from.kind);
     if room < n {
         return Err(Fault::Room);
     }
@@ -35,19 +33,13 @@ fn check(record: Record, version: StoredVersion, room: usize) -> Result<usize, F
 }
 
 // Writes the record in a version: how many bytes, or why the output stays as it was.
-pub fn store(record: Record, version: StoredVersion, out: &mut [u8]) -> Result<usize, Fault>
-    ensures { (told_written result ≡ store_answer version «record» (length out.old))
-        × (out.new ≡ output_after (store_answer version «record» (length out.old)) (stored version «record») out.old)
-        × Means version «record» (length out.old) (told_written result)
-        × LoadsBack version «record» (told_written result) out.new }
+pub fn store(from: Record, version: StoredVersion, out: &mut [u8]) -> Result<usize, Fault>
+    ensures { (told_written result ≡ store_answer version from (length out.old))
+        × (out.new ≡ output_after (store_answer version from (length out.old)) (stored version from) out.old)
+        × Means version from (length out.old) (told_written result)
+        × LoadsBack version from (told_written result) out.new }
 {
-    let kind = record.kind;
-    let checksum = record.checksum;
-    let answer = check(record, version, out.len());
-    let written = is_written(answer);
-    if !written {
-        return answer;
-    }
+    let written = check(from, version, out.len())?;
     let n = head_length(version);
     let head = [
         0x43,
@@ -55,10 +47,10 @@ pub fn store(record: Record, version: StoredVersion, out: &mut [u8]) -> Result<u
         0x52,
         0x00,
         version_byte(version),
-        code_of(kind),
-        state_byte(checksum),
+        code_of(from.kind),
+        state_byte(from.checksum),
     ];
     put(&head[..n], out, 0);
-    put_addresses(record, out, n);
-    answer
+    put_addresses(from, out, n);
+    Ok(written)
 }

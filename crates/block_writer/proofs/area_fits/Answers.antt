@@ -1,5 +1,5 @@
--- Each arm answers as `area_test` does at its kind; what `well_formed` ensures is the test of a well-formed area.
-use Rattle.std.proofs.Common.{ℕ, ◌≡◌, sym, Bool, true, List}
+-- Each arm answers as `area_test` does at its kinds; what `well_formed` ensures is the test of a well-formed area.
+use Rattle.std.proofs.Common.{ℕ, ◌≡◌, sym, Bool, true, List, inl, inr}
 use Rattle.tlv.specs.Tlv.{WellFormed}
 use Rattle.tlv.specs.Test.{well_formed}
 use Rattle.tlv.proofs.Test.{tested_is}
@@ -9,16 +9,9 @@ tested : (b : Bool) (area : List ℕ) → (b ≡ true → WellFormed area) × (W
 tested b area e = sym (tested_is area b e.0 e.1)
 
 pub returns-in-Local : goal.returns-in-Local
-returns-in-Local c = rw c.in-Local.is
-
-pub returns-in-Unspecified : goal.returns-in-Unspecified
-returns-in-Unspecified c = rw c.in-Unspecified.is
+returns-in-Local c = elim c.in-Local.is [ inl e ↦ rw e | inr e ↦ rw e ]
 
 pub returns-in-Ip4 : goal.returns-in-Ip4
-returns-in-Ip4 c = rw c.in-Ip4.is (tested c.well_formed-in-Ip4.result _ c.well_formed-in-Ip4.ensures)
-
-pub returns-in-Ip6 : goal.returns-in-Ip6
-returns-in-Ip6 c = rw c.in-Ip6.is (tested c.well_formed-in-Ip6.result _ c.well_formed-in-Ip6.ensures)
-
-pub returns-in-Unix : goal.returns-in-Unix
-returns-in-Unix c = rw c.in-Unix.is (tested c.well_formed-in-Unix.result _ c.well_formed-in-Unix.ensures)
+returns-in-Ip4 c =
+    let t = tested c.well_formed-in-Ip4.result _ c.well_formed-in-Ip4.ensures in
+    elim c.in-Ip4.is [ inl e ↦ rw e.1 t | inr r ↦ elim r [ inl e ↦ rw e.1 t | inr e ↦ rw e.1 t ] ]

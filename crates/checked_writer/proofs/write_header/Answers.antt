@@ -22,12 +22,12 @@ pub returns-then-request : goal.returns-then-request
 returns-then-request c =
     let w = (goal.at.returns-then-request c).After-write_checked in
     let x = w.args in
-    by_request x.request _ w.if-request.true x.«record» x.area.now x.out.now _ w.write_checked.result w.write_checked.ensures.0
+    by_request x.request _ w.if-request.true x.from x.area.now x.out.now _ w.write_checked.result w.write_checked.ensures.0
     w.write_checked.ensures.1
 
 pub returns-else-request : goal.returns-else-request
 returns-else-request c =
     let w = (goal.at.returns-else-request c).After-write_block in
     let x = w.args in
-    by_request x.request _ w.if-request.false x.«record» x.area.now x.out.now _ w.write_block.result w.write_block.ensures.0
+    by_request x.request _ w.if-request.false x.from x.area.now x.out.now _ w.write_block.result w.write_block.ensures.0
     w.write_block.ensures.1

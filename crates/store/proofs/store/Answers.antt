@@ -1,5 +1,7 @@
--- What is written is what `check` answers. A refusal leaves the output as it was; else the address block stands behind the version's head.
+-- A refusal leaves the output as it was; else the address block stands behind the version's head.
 use Rattle.std.proofs.Common.{ℕ, ◌+◌, ◌≤◌, ◌≡◌, sym, ap, ap₂, ◌∙◌, List, [], ◌∷◌, ◌++◌, arith, length, take, drop, length-append, length-take-le}
+use Rattle.std.specs.Prelude.{Result, Ok, Err}
+use Rattle.std.proofs.lemmas.Result.{err_from_is_err_and}
 use Rattle.record.specs.declared.Record.{Record}
 use Rattle.record.specs.Kinds.{block_length}
 use Rattle.record.specs.Records.{Sized}
@@ -8,8 +10,9 @@ use Rattle.address_block.proofs.AddressBlockLaws.{block_size}
 use Rattle.lent.specs.Placed.{placed}
 use Rattle.lent.proofs.PlacedLaws.{placed_then, placed_start}
 use Rattle.record.proofs.InMemory.{in_memory}
-use Rattle.answer.specs.Answers.{WriteAnswer, output_after}
-use Rattle.answer.proofs.OutputLaws.{output_refused, is_wrote, output_written, promised}
+use Rattle.answer.specs.declared.Fault.{Fault}
+use Rattle.answer.specs.Answers.{WriteAnswer, wrote, told_written}
+use Rattle.answer.proofs.OutputLaws.{refused, written}
 use Rattle.answer.specs.OutputLaws.{Promised}
 use Rattle.kind_code.specs.Codes.{code_of}
 use Rattle.kind_code.specs.States.{state_byte}
@@ -19,7 +22,6 @@ use Rattle.stored_form.proofs.HeadLaws.{seven_at_most, head_length_lem, head_cut
 use Rattle.stored_form.specs.Stored.{stored, store_answer}
 use Rattle.stored_form.specs.Meaning.{Means, LoadsBack}
 use Rattle.stored_form.proofs.RoundTrip.{stored-length, answer_means, store_written, loads_back}
-use Rattle.store.proofs.store.Goals.{After-check-answer, After-code_of, After-head_length-n, After-is_written-written, After-put, After-put_addresses, After-state_byte, After-version_byte}
 use Rattle.store.proofs.store.Goals as goal
 
 -- ── the output ──
@@ -51,66 +53,51 @@ module _ (v : StoredVersion) (r : Record) where
       joined (head v r.kind r.checksum) (address_block r) d d₁ d₂ i n (omega arith) (omega arith) room
       (e₁ ∙ ap (λ (l : List ℕ). placed l 0 d) eh) e₂
 
-module _ (c : After-check-answer) where
-  abbrev the_record : Record
-  the_record = c.args.«record»
-
-  abbrev version : StoredVersion
-  version = c.args.version
-
-  abbrev out : List ℕ
-  out = c.args.out.now
-
-  abbrev text : List ℕ
-  text = stored version the_record
-
+module _ (v : StoredVersion) (r : Record) (out : List ℕ) (sized : Sized r) where
   abbrev answer : WriteAnswer
-  answer = store_answer version the_record (length out)
+  answer = store_answer v r (length out)
 
-  sized : Sized the_record
-  sized = in_memory the_record _ c.well_formed.0
+  -- what is promised, since the record is one in memory
+  abbrev Owed : (w : Result ℕ Fault) (after : List ℕ) → Type 0
+  Owed = Promised answer (stored v r) out (Means v r (length out)) (LoadsBack v r)
 
-  -- an output as defined is what is promised, since the record is one in memory
-  promise : (after : List ℕ) → after ≡ output_after answer text out
-      → Promised answer text out (Means version the_record (length out)) (LoadsBack version the_record) c.check-answer.result after
-  promise =
-      promised answer text out (Means version the_record (length out)) (LoadsBack version the_record) (answer_means version the_record (length out) sized)
-      (λ after. loads_back version the_record out after sized) c.check-answer.result c.check-answer.ensures
+  on_refusal : (fault : Fault) → told_written (Err fault) ≡ answer → Owed (Err fault) out
+  on_refusal =
+      refused answer (stored v r) out (Means v r (length out)) (LoadsBack v r) (answer_means v r (length out) sized)
+      (λ after. loads_back v r out after sized)
 
-pub returns-then-not-written : goal.returns-then-not-written
-returns-then-not-written c =
-    let told = (goal.at.returns-then-not-written c).After-is_written-written in
-    let d = (goal.at.After-is_written-written told).After-check-answer in
-    promise d (out d)
-    (output_refused (answer d) d.check-answer.result d.check-answer.ensures told.is_written-written.ensures (text d) (out d) (c.if-not-written.true))
+  on_success : (n : ℕ) → wrote n ≡ answer → (after : List ℕ) → after ≡ stored v r ++ drop n out → Owed (Ok n) after
+  on_success =
+      written answer (stored v r) out (Means v r (length out)) (LoadsBack v r) (answer_means v r (length out) sized)
+      (λ after. loads_back v r out after sized)
+
+pub returns-in_err-written : goal.returns-in_err-written
+returns-in_err-written c =
+    let p = err_from_is_err_and c.from_residual.result c.from_residual.ensures.1 in
+    rw (p.1, p.2) (on_refusal c.args.version c.args.from c.args.out.now (in_memory c.args.from _ c.well_formed.0) _ c.in_err-written.ensures)
 
 -- the head is at most the seven bytes
 pub slice_bounds-head-end : goal.slice_bounds-head-end
 slice_bounds-head-end c =
-    let sized = (goal.at.slice_bounds-head-end c).After-head_length-n in
-    let most = seven_at_most (version (goal.at.After-head_length-n sized).After-check-answer) in
-    let h = sized.head_length-n.ensures in
+    let most = seven_at_most c.args.version in
+    let h = c.head_length-n.ensures in
     omega arith
 
 pub slice_bounds-put-end : goal.slice_bounds-put-end
-slice_bounds-put-end c = sym (length-take-le _ _ (slice_bounds-head-end (goal.at.slice_bounds-put-end c).After-state_byte))
+slice_bounds-put-end c =
+    let most = seven_at_most c.args.version in
+    let h = c.head_length-n.ensures in
+    sym (length-take-le _ _ (omega arith))
 
 pub returns : goal.returns
 returns c =
-    let c₂ = (goal.at.returns c).After-put_addresses in
-    let c₁ = (goal.at.After-put_addresses c₂).After-put in
-    let state = (goal.at.After-put c₁).After-state_byte in
-    let code = (goal.at.After-state_byte state).After-code_of in
-    let byte = (goal.at.After-code_of code).After-version_byte in
-    let cut_at = (goal.at.After-version_byte byte).After-head_length-n in
-    let told = (goal.at.After-head_length-n cut_at).After-is_written-written in
-    let d = (goal.at.After-is_written-written told).After-check-answer in
-    let some = is_wrote (answer d) d.check-answer.result d.check-answer.ensures told.is_written-written.ensures (cut_at.if-not-written.false) in
-    let n = some.0 in
-    let w = store_written (version d) (the_record d) (length (out d)) (sized d) n some.1 in
-    let l = stored-length (version d) (the_record d) (sized d) in
-    promise d _
-    (whole (version d) (the_record d) (sized d) _ cut_at.head_length-n.result n _ _ _
-    (cut (version d) (the_record d) _ _ _ _ cut_at.head_length-n.ensures byte.version_byte.ensures code.code_of.ensures state.state_byte.ensures)
-    cut_at.head_length-n.ensures (omega arith) w.2 c₁.put.ensures c₂.put_addresses.ensures
-    ∙ output_written (answer d) (text d) (out d) n some.1)
+    let v = c.args.version in
+    let r = c.args.from in
+    let out = c.args.out.now in
+    let s = in_memory r _ c.well_formed.0 in
+    let w = store_written v r (length out) s _ (sym c.in_ok-written.ensures) in
+    let l = stored-length v r s in
+    on_success v r out s _ c.in_ok-written.ensures _
+    (whole v r s _ c.head_length-n.result _ _ _ _
+    (cut v r _ _ _ _ c.head_length-n.ensures c.version_byte.ensures c.code_of.ensures c.state_byte.ensures)
+    c.head_length-n.ensures (omega (arith, w.1)) w.2 c.put.ensures c.put_addresses.ensures)
