@@ -1,60 +1,53 @@
-// The TLV area of a reading: where it lies in the bytes read, and the part itself. No public function has a `requires`.
+// The TLV area of a header: where it lies in the bytes read, and the part itself. No public function has a `requires`.
 #![tactic(auto)]
 
 ghost use Rattle.std.specs.Prelude.{◌≡◌, ◌+◌, length};
-ghost use Rattle.area.specs.Area.{area_start, area_end, read_area};
+ghost use Rattle.area.specs.Area.{span_start, span_end, area_start, area_end, header_area};
 
-use answer::{Reading, Verdict};
-use lent::least;
+use answer::{Header, Verdict};
 use record::{Kind, block_length};
 
 // Where a part of the bytes read begins and ends.
-#[derive(Drop)]
+#[derive(Clone, Copy)]
 pub struct Span {
     pub start: usize,
     pub end: usize,
 }
 
-// Where the TLV area lies in the bytes read, of which there are size, by the verdict on them and the kind.
+// Where the TLV area of a header of this length, version and kind lies in the bytes read, of which there are size; at 0 and empty where
+// there is none.
+#[tactic(auto, using(fields::specs::BlockFields::block_small))]
+pub fn span_of(length: usize, version: u8, kind: Kind, size: usize) -> Span
+    ensures start { result.start ≡ span_start length version kind size }
+    ensures end { result.end ≡ span_end length version kind size }
+{
+    let block = block_length(kind);
+    if version != 2 || block == 0 {
+        return Span { start: 0, end: 0 };
+    }
+    let end = length.min(size);
+    Span {
+        start: end.min(16 + block),
+        end,
+    }
+}
+
+// The same by the verdict on the bytes read; only an accepted header has an area.
 pub fn area_span(verdict: Verdict, kind: Kind, size: usize) -> Span
     ensures { (result.start ≡ area_start verdict kind size) × (result.end ≡ area_end verdict kind size) }
 {
     match verdict {
-        Verdict::Accepted { length, version } => {
-            if version == 2 {
-                let block = block_length(kind);
-                if block == 0 {
-                    Span { start: 0, end: 0 }
-                } else {
-                    let end = least(length, size);
-                    Span {
-                        start: least(16 + block, end),
-                        end,
-                    }
-                }
-            } else {
-                Span { start: 0, end: 0 }
-            }
-        }
-        Verdict::More { least: _ } => Span { start: 0, end: 0 },
-        Verdict::Refused {
-            refusal: _,
-            place: _,
-        } => Span { start: 0, end: 0 },
+        Verdict::Accepted { length, version } => span_of(length, version, kind, size),
+        Verdict::More { .. } | Verdict::Refused { .. } => Span { start: 0, end: 0 },
     }
 }
 
-// The TLV area of a reading of s, as the very part of s; empty where there is none.
-pub fn tlv_area(s: &[u8], reading: Reading) -> &[u8]
+// The TLV area of a header of s, as the very part of s; empty where there is none.
+pub fn tlv_area<'a>(s: &'a [u8], header: &Header) -> &'a [u8]
     ensures { (result.ref_ptr.0 ≡ s.entry.ref_ptr.0)
-        × (result.ref_ptr.1 ≡ s.entry.ref_ptr.1 + area_start reading.verdict reading.record.kind (length s.now))
-        × (result.now ≡ read_area reading s.now) }
+        × (result.ref_ptr.1 ≡ s.entry.ref_ptr.1 + span_start header.now.length header.now.version header.now.«record».kind (length s.now))
+        × (result.now ≡ header_area header.now s.now) }
 {
-    let verdict = reading.verdict;
-    let record = reading.record;
-    let kind = record.kind;
-    let span = area_span(verdict, kind, s.len());
-    let start = span.start;
-    let end = span.end;
-    &s[start..end]
+    let span = span_of(header.length, header.version, header.record.kind, s.len());
+    &s[span.start..span.end]
 }
