@@ -2,21 +2,8 @@
 // answer line for each. For comparisons: many inputs in one process.
 #![tactic(auto)]
 
-ghost use Rattle.std.specs.Prelude.{◌<◌};
-
 use std::io;
 use std::io::{Read, Write};
-
-// The length that three bytes say.
-fn length_of(head: [u8; 3]) -> usize {
-    wide(head[0]) * 65536 + wide(head[1]) * 256 + wide(head[2])
-}
-
-fn wide(x: u8) -> usize
-    ensures { result < 256 }
-{
-    x as usize
-}
 
 // One case, read into the buffer; false where there is none, or none whole that fits.
 fn judge_one<R: Read, W: Write>(
@@ -25,19 +12,17 @@ fn judge_one<R: Read, W: Write>(
     buffer: &mut [u8],
 ) -> io::Result<bool> {
     let mut head = [0u8; 3];
-    let got = report::read_full(reader, &mut head)?;
-    if got < 3 {
+    if report::read_full(reader, &mut head)? < 3 {
         return Ok(false);
     }
-    let n = length_of(head);
-    if buffer.len() < n {
+    let n = u32::from_be_bytes([0, head[0], head[1], head[2]]) as usize;
+    let Some(bytes) = buffer.get_mut(..n) else {
+        return Ok(false);
+    };
+    if report::read_full(reader, bytes)? < n {
         return Ok(false);
     }
-    let m = report::read_full(reader, &mut buffer[..n])?;
-    if m < n {
-        return Ok(false);
-    }
-    report::print_reading(writer, reader::read(&buffer[..n]))?;
+    report::print_answer(writer, &reader::read_header(bytes))?;
     Ok(true)
 }
 

@@ -8,11 +8,11 @@ use Rattle.record.specs.declared.Kind.TheVariants.{Local, Unspecified, Ip4, Ip6,
 use Rattle.record.specs.Kinds.{kind_word}
 use Rattle.answer.specs.declared.Refusal.{Refusal}
 use Rattle.answer.specs.declared.Refusal.TheVariants.{Start, Word, Address, Port, End, Command, Family, Length, Tlv}
-use Rattle.answer.specs.declared.Verdict.TheVariants.{Accepted, Refused}
+use Rattle.answer.specs.declared.Stop.TheVariants.{Refused}
 use Rattle.answer.specs.Answers.{number_of}
 use Rattle.draft.specs.Numeral.{decimal_text}
 use Rattle.draft.proofs.NumeralLaws.{numeral-length}
-use Rattle.report.specs.Line.{line_of}
+use Rattle.report.specs.Line.{line_of, stop_line}
 
 kind_length : (k : Kind) → length (kind_word k) ≤ 13
 kind_length Local = omega arith
@@ -39,14 +39,14 @@ number_small Tlv = omega arith
 digits : (n : ℕ) → n < 2 ^ 64 → length (decimal_text n) ≤ 20
 digits n fits = numeral-length 10 (omega arith) 19 n (omega arith)
 
-pub accepted_fits : (n v : ℕ) (k : Kind) → n < 2 ^ 64 → length (line_of (Accepted n v) k) ≤ 44
-accepted_fits n v k fits =
+pub accepted_fits : (n : ℕ) (k : Kind) → n < 2 ^ 64 → length (line_of n k) ≤ 44
+accepted_fits n k fits =
     let l = digits n fits in
     let w = kind_length k in
     simp length-append (omega arith)
 
-pub refused_fits : (r : Refusal) (place : ℕ) (k : Kind) → place < 2 ^ 64 → length (line_of (Refused r place) k) ≤ 44
-refused_fits r place k fits =
+pub refused_fits : (r : Refusal) (place : ℕ) → place < 2 ^ 64 → length (stop_line (Refused r place)) ≤ 44
+refused_fits r place fits =
     let small = number_small r in
     let l = numeral-length 10 (omega arith) 0 (number_of r) (omega arith) in
     let p = digits place fits in

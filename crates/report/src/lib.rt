@@ -6,9 +6,9 @@ ghost use Rattle.std.specs.Io.{ReadsAtMost};
 ghost use Rattle.std.specs.Io.KnownBytes.{Appends, Consumes};
 ghost use Rattle.record.specs.Kinds.{kind_word};
 ghost use Rattle.draft.specs.Drafts.{Adds};
-ghost use Rattle.report.specs.Line.{answer_line};
+ghost use Rattle.report.specs.Line.{line_of, stop_line, answer_line};
 
-use answer::{Reading, Verdict, refusal_number};
+use answer::{Header, Stop, refusal_number};
 use draft::{Base, Draft};
 use record::{Kind, Transport};
 use std::io;
@@ -30,28 +30,44 @@ fn kind_word(kind: Kind) -> &'static [u8]
     }
 }
 
-// Puts `more`, `refused 3 at 13`, or `accepted 47 ip4-stream`, and LF, behind what the draft has. 9 + 20 + 1 + 13 + 1 = 44 bytes are room enough.
-// (No Display: std says what is written only of a call that succeeds, and this one cannot fail.)
-pub fn answer_line(draft: &mut Draft, reading: &Reading)
-    ensures line { Adds draft.old draft.new (answer_line reading.now) }
-    ensures fits { length (answer_line reading.now) ≤ 44 }
+// `accepted 47 ip4-stream`, and LF: 9 + 20 + 1 + 13 + 1 = 44 bytes at most.
+fn push_accepted(draft: &mut Draft, n: usize, kind: Kind)
+    ensures line { Adds draft.old draft.new (line_of n kind) }
+    ensures fits { length (line_of n kind) ≤ 44 }
 {
-    match reading.verdict {
-        Verdict::Accepted { length, version: _ } => {
-            draft.push_word(b"accepted ");
-            draft.push_number(Base::Decimal, length as u64);
-            draft.push(b' ');
-            draft.push_word(kind_word(reading.record.kind));
-            draft.push(b'\n');
-        }
-        Verdict::More { least: _ } => draft.push_word(b"more\n"),
-        Verdict::Refused { refusal, place } => {
+    draft.push_word(b"accepted ");
+    draft.push_number(Base::Decimal, n as u64);
+    draft.push(b' ');
+    draft.push_word(kind_word(kind));
+    draft.push(b'\n');
+}
+
+// `more` or `refused 3 at 13`, and LF.
+fn push_stop(draft: &mut Draft, stop: Stop)
+    ensures line { Adds draft.old draft.new (stop_line stop) }
+    ensures fits { length (stop_line stop) ≤ 44 }
+{
+    match stop {
+        Stop::More { least: _ } => draft.push_word(b"more\n"),
+        Stop::Refused { refusal, place } => {
             draft.push_word(b"refused ");
             draft.push_number(Base::Decimal, u64::from(refusal_number(refusal)));
             draft.push_word(b" at ");
             draft.push_number(Base::Decimal, place as u64);
             draft.push(b'\n');
         }
+    }
+}
+
+// Puts the line of an answer behind what the draft has: 44 bytes are room enough. (No Display: std says what is written only of a call that
+// succeeds, and this one cannot fail.)
+pub fn push_answer(draft: &mut Draft, answer: &Result<Header, Stop>)
+    ensures line { Adds draft.old draft.new (answer_line answer.now) }
+    ensures fits { length (answer_line answer.now) ≤ 44 }
+{
+    match answer {
+        Ok(header) => push_accepted(draft, header.length, header.record.kind),
+        Err(stop) => push_stop(draft, *stop),
     }
 }
 
@@ -93,15 +109,15 @@ fn write_whole<W: Write>(writer: &mut W, bytes: &[u8]) -> io::Result<()>
     Ok(())
 }
 
-// Writes the line to a stream: offered whole, and again from where the stream stopped. An error is that of a write that fails or takes no
+// Writes the line of an answer to a stream: offered whole, and again from where the stream stopped. An error is that of a write that fails or takes no
 // byte; some first bytes of the line are written then.
-pub fn print_reading<W: Write>(writer: &mut W, reading: Reading) -> io::Result<()>
-    ensures written { OnOk result (Appends (W.contents writer.old) (W.contents writer.new) (answer_line reading)) }
-    ensures failed { OnErr result ((n : ℕ) × Appends (W.contents writer.old) (W.contents writer.new) (take n (answer_line reading))) }
+pub fn print_answer<W: Write>(writer: &mut W, answer: &Result<Header, Stop>) -> io::Result<()>
+    ensures written { OnOk result (Appends (W.contents writer.old) (W.contents writer.new) (answer_line answer.now)) }
+    ensures failed { OnErr result ((n : ℕ) × Appends (W.contents writer.old) (W.contents writer.new) (take n (answer_line answer.now))) }
 {
     let mut text = [0u8; 44];
     let mut draft = Draft::over(&mut text);
-    answer_line(&mut draft, &reading);
+    push_answer(&mut draft, answer);
     let n = draft.length;
     write_whole(writer, &draft.bytes[..n])
 }

@@ -1,5 +1,5 @@
-use super::{print_reading, read_full};
-use answer::{Reading, Verdict};
+use super::{print_answer, read_full};
+use answer::{Header, Stop};
 use record::{Kind, Transport, blank};
 use std::io;
 use std::io::{Read, Write};
@@ -85,12 +85,11 @@ impl Write for Narrow {
 // "more" and LF are five bytes.
 #[test]
 fn a_line_is_written_in_scraps(rt: HostRuntime) -> io::Result<()> {
-    let verdict = Verdict::More { least: 15 };
-    let record = blank(Kind::Unspecified);
+    let more = Err(Stop::More { least: 15 });
     let mut stream = Narrow { room: 5 };
-    print_reading(&mut stream, Reading { verdict, record })?;
+    print_answer(&mut stream, &more)?;
     assert!(rt; stream.room == 0);
-    let told = print_reading(&mut Narrow { room: 4 }, Reading { verdict, record });
+    let told = print_answer(&mut Narrow { room: 4 }, &more);
     assert!(rt; told.is_err());
     Ok(())
 }
@@ -98,12 +97,12 @@ fn a_line_is_written_in_scraps(rt: HostRuntime) -> io::Result<()> {
 #[test]
 fn a_line_is_written(rt: HostRuntime) -> io::Result<()> {
     let mut written = Vec::new(rt.alloc());
-    let verdict = Verdict::Accepted {
+    let header = Header {
         length: 47,
         version: 1,
+        record: blank(Kind::Ip4(Transport::Stream)),
     };
-    let record = blank(Kind::Ip4(Transport::Stream));
-    print_reading(&mut written, Reading { verdict, record })?;
+    print_answer(&mut written, &Ok(header))?;
     assert!(rt; written.as_slice() == b"accepted 47 ip4-stream\n".as_slice());
     Ok(())
 }
