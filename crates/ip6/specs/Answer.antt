@@ -1,17 +1,10 @@
 -- What a function that scans a part of an address answers.
-use Rattle.std.specs.Prelude.{◌≡◌, List, ℕ, zero, suc, ◌+◌}
+use Rattle.std.specs.Prelude.{◌≡◌, List, ℕ, ◌+◌}
 use Rattle.exact.specs.Claim.{Verdict, accepted, more, refused}
 use Rattle.exact.specs.Machine.{Move, go, done, dead, from}
 use Rattle.exact.specs.declared.Scan.{Scan}
-use Rattle.exact.specs.declared.Scan.TheVariants.{Accepted, More, Refused}
 use Rattle.ip6.specs.Machine.{Gathered, State, finish, least_address, step}
 use Rattle.exact.specs.Scans.{heard}
-
--- the answer that a number and a place say: 0 accepted, with the address's length; 1 more, with the fewest bytes; from 2 on refused at the place
-abbrev pub scan_of : ℕ → ℕ → Scan (Unit {0})
-scan_of zero place = Accepted tt place
-scan_of (suc zero) place = More place
-scan_of (suc (suc n)) place = Refused place
 
 -- the machine's answer on the bytes from the place i on, in the state q
 pub record From (end : ℕ) (s : List ℕ) (i : ℕ) (q : State) (t : Scan (Unit {0})) (groups : List ℕ) : Type 0 where

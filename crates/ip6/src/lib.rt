@@ -13,7 +13,7 @@ ghost use Rattle.exact.specs.Scans.{told, Inside};
 ghost use Rattle.ip6.specs.Address.{Address, Ending};
 ghost use Rattle.ip6.specs.Machine.{start, digits, behind, least_address, step};
 ghost use Rattle.ip6.specs.Partial.{Sized, sofar, gathered_of, spread};
-ghost use Rattle.ip6.specs.Answer.{scan_of, From, Closed};
+ghost use Rattle.ip6.specs.Answer.{From, Closed};
 
 use colon_part::{Part, colon_part, least_behind};
 use exact::Scan;
@@ -27,121 +27,78 @@ fn spread_out(groups: &mut [u16; 8], count: usize, gap: usize)
     groups[gap..].rotate_right(8 - count);
 }
 
-// What the functions below answer: one of these numbers, and in place the length of an accepted address, how few bytes could finish it, or
-// the place of the byte that rules it out. A `Scan` would come back through memory, at each of their calls. `group` and `colon` take the slice behind a reference:
-// a slice itself would be copied into the caller's memory at each call, and the call could be no jump.
-const ACCEPTED: u8 = 0;
-
-const MORE: u8 = 1;
-
-const REFUSED: u8 = 2;
-
 // The address ends at place i.
-fn finished(groups: &mut [u16; 8], count: usize, gap: usize, i: usize, place: &mut usize) -> u8
+fn finished(groups: &mut [u16; 8], count: usize, gap: usize, i: usize) -> Scan<()>
     requires { Sized (sofar groups.old count gap) × (i + 1 < 2 ^ 64) }
-    ensures { Closed i (gathered_of (sofar groups.old count gap)) (scan_of result place.new) groups.new }
+    ensures { Closed i (gathered_of (sofar groups.old count gap)) result groups.new }
 {
     if gap == 0 {
         if count == 8 {
-            *place = i + 1;
-            ACCEPTED
+            Scan::Accepted((), i + 1)
         } else {
-            *place = i;
-            REFUSED
+            Scan::Refused(i)
         }
     } else {
         spread_out(groups, count, gap);
-        *place = i + 1;
-        ACCEPTED
+        Scan::Accepted((), i + 1)
     }
 }
 
 // A group begins at place i.
 #[cycle(colon_group)]
-fn group(
-    s: &&[u8],
-    i: usize,
-    end: u8,
-    groups: &mut [u16; 8],
-    count: usize,
-    gap: usize,
-    place: &mut usize,
-) -> u8
-    requires { Sized (sofar groups.old count gap) × (count < 8) × (length s.now.now < 2 ^ 64) }
-    ensures { From end s.now.now i (digits (gathered_of (sofar groups.old count gap)) 0 0)
-        (scan_of result place.new) groups.new }
+fn group(s: &[u8], i: usize, end: u8, groups: &mut [u16; 8], count: usize, gap: usize) -> Scan<()>
+    requires { Sized (sofar groups.old count gap) × (count < 8) × (length s.now < 2 ^ 64) }
+    ensures { From end s.now i (digits (gathered_of (sofar groups.old count gap)) 0 0) result groups.new }
 {
-    let bytes = *s;
     let mut v: u16 = 0;
     let mut n: usize = 0;
-    let mut at = i;
-    while at < bytes.len() {
-        let d = hex_value(bytes[at]);
+    for at in i..s.len() {
+        let d = hex_value(s[at]);
         if d == 16 {
             let empty = n == 0;
             if empty {
-                *place = at;
-                return REFUSED;
+                return Scan::Refused(at);
             }
             groups[count] = v;
-            return colon(s, at, end, groups, count + 1, gap, place);
+            return colon(s, at, end, groups, count + 1, gap);
         }
         let full = n == 4;
         if full {
-            *place = at;
-            return REFUSED;
+            return Scan::Refused(at);
         }
         v = v * 16 + d as u16;
         n += 1;
-        at += 1;
     }
     let behind = least_behind(count + 1, gap);
-    *place = if n == 0 { behind + 1 } else { behind };
-    MORE
+    Scan::More(if n == 0 { behind + 1 } else { behind })
 }
 
 // A colon part, or the end, stands at place i.
 #[cycle(colon_group)]
-fn colon(
-    s: &&[u8],
-    i: usize,
-    end: u8,
-    groups: &mut [u16; 8],
-    count: usize,
-    gap: usize,
-    place: &mut usize,
-) -> u8
-    requires { Sized (sofar groups.old count gap) × (length s.now.now < 2 ^ 64) }
-    ensures { From end s.now.now i (behind (gathered_of (sofar groups.old count gap)))
-        (scan_of result place.new) groups.new }
+fn colon(s: &[u8], i: usize, end: u8, groups: &mut [u16; 8], count: usize, gap: usize) -> Scan<()>
+    requires { Sized (sofar groups.old count gap) × (length s.now < 2 ^ 64) }
+    ensures { From end s.now i (behind (gathered_of (sofar groups.old count gap))) result groups.new }
 {
-    match colon_part(*s, i, end, count, gap) {
-        Part::More(least) => {
-            *place = least;
-            MORE
-        }
-        Part::Refused(dead) => {
-            *place = dead;
-            REFUSED
-        }
-        Part::End { at, count, gap } => finished(groups, count, gap, at, place),
-        Part::Group { at, count, gap } => group(s, at, end, groups, count, gap, place),
+    match colon_part(s, i, end, count, gap) {
+        Part::More(least) => Scan::More(least),
+        Part::Refused(dead) => Scan::Refused(dead),
+        Part::End { at, count, gap } => finished(groups, count, gap, at),
+        Part::Group { at, count, gap } => group(s, at, end, groups, count, gap),
     }
 }
 
 // The answer from the first byte on.
-fn begun(s: &[u8], end: u8, groups: &mut [u16; 8], place: &mut usize) -> u8
+fn begun(s: &[u8], end: u8, groups: &mut [u16; 8]) -> Scan<()>
     requires { Sized (sofar groups.old 0 0) }
-    ensures { From end s.now 0 start (scan_of result place.new) groups.new }
+    ensures { From end s.now 0 start result groups.new }
 {
     if s.len() == 0 {
-        *place = 3;
-        return MORE;
+        return Scan::More(3);
     }
     if s[0] == b':' {
-        colon(&s, 0, end, groups, 0, 0, place)
+        colon(s, 0, end, groups, 0, 0)
     } else {
-        group(&s, 0, end, groups, 0, 0, place)
+        group(s, 0, end, groups, 0, 0)
     }
 }
 
@@ -153,13 +110,9 @@ pub fn address(s: &[u8], end: u8) -> Scan<[u16; 8]>
     ensures inside { Inside (length s.now) 4 result }
 {
     let mut groups = [0u16; 8];
-    let mut place: usize = 0;
-    let answer = begun(s, end, &mut groups, &mut place);
-    if answer == ACCEPTED {
-        return Scan::Accepted(groups, place);
+    match begun(s, end, &mut groups) {
+        Scan::Accepted(_, n) => Scan::Accepted(groups, n),
+        Scan::More(least) => Scan::More(least),
+        Scan::Refused(place) => Scan::Refused(place),
     }
-    if answer == MORE {
-        return Scan::More(place);
-    }
-    Scan::Refused(place)
 }

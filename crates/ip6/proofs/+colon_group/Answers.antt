@@ -17,10 +17,10 @@ module _ (t : ℕ) (c : colon-After-colon_part t) where
   partial = sofar c.args.groups.now c.args.count c.args.gap
 
   abbrev Led : Part → Type 0
-  Led = Leads c.args.end c.args.s.now.now partial (c.args.i + 1) (behind (gathered_of partial)) c.args.i
+  Led = Leads c.args.end c.args.s.now partial (c.args.i + 1) (behind (gathered_of partial)) c.args.i
 
   leads : (p : Part) → c.colon_part.result ≡ p → Led p
-  leads p e = subst Led (sym c.colon_part.ensures ∙ e) (part_leads c.args.end c.args.s.now.now partial (c.args.i + 1) c.requires.0 c.args.i (omega arith))
+  leads p e = subst Led (sym c.colon_part.ensures ∙ e) (part_leads c.args.end c.args.s.now partial (c.args.i + 1) c.requires.0 c.args.i (omega arith))
 
 pub colon-finished-requires : goal.colon-finished-requires
 colon-finished-requires t c =
@@ -46,18 +46,18 @@ colon-returns-in-Group t c = (leads t (goal.at.colon-returns-in-Group t c).After
 
 -- ── group, at a byte of it ──
 module _ (t : ℕ) (c : group-After-hex_value-d t) where
-  abbrev inside : c.loop-at.at < length c.args.s.now.now
+  abbrev inside : c.loop-at.at < length c.args.s.now
   inside = c.loop-at-test.true
 
-  valued : c.hex_value-d.result ≡ hex_of (get_or c.args.s.now.now c.loop-at.at 0)
+  valued : c.hex_value-d.result ≡ hex_of (get_or c.args.s.now c.loop-at.at 0)
   valued = c.hex_value-d.ensures
 
-  is_none : c.hex_value-d.result ≡ 16 → hex_of (get_or c.args.s.now.now c.loop-at.at 0) ≡ 16
+  is_none : c.hex_value-d.result ≡ 16 → hex_of (get_or c.args.s.now c.loop-at.at 0) ≡ 16
   is_none e = sym valued ∙ e
 
-  is_digit : (c.hex_value-d.result ≡ 16 → ⊥) → hex_of (get_or c.args.s.now.now c.loop-at.at 0) < 16
+  is_digit : (c.hex_value-d.result ≡ 16 → ⊥) → hex_of (get_or c.args.s.now c.loop-at.at 0) < 16
   is_digit n =
-      let a = hex_most (get_or c.args.s.now.now c.loop-at.at 0) in
+      let a = hex_most (get_or c.args.s.now c.loop-at.at 0) in
       let e = valued in
       omega arith
 

@@ -1,5 +1,5 @@
 -- `address` answers as `begun`: with its groups where an address is accepted, and with none elsewhere.
-use Rattle.std.proofs.Common.{◌≡◌, refl, sym, ◌∙◌, List, ℕ, zero, suc, length}
+use Rattle.std.proofs.Common.{◌≡◌, sym, ◌∙◌, List, ℕ, length}
 use Rattle.exact.specs.Claim.{Claim}
 use Rattle.exact.specs.Ended.{Ended}
 use Rattle.exact.proofs.MachineLaws.{from_start}
@@ -15,7 +15,7 @@ use Rattle.ip6.specs.Address.{Address, Ending}
 use Rattle.ip6.specs.Machine.{State, start, least_address, step}
 use Rattle.ip6.proofs.Leasts.{address_few}
 use Rattle.ip6.specs.Parser.{ip6}
-use Rattle.ip6.specs.Answer.{scan_of, From}
+use Rattle.ip6.specs.Answer.{From}
 use Rattle.ip6.proofs.address.Goals as goal
 
 whole : {end : ℕ} {s : List ℕ} {t : Scan (Unit {0})} {g : List ℕ} → From end s 0 start t g → (k m : ℕ) → heard k m t g ≡ run k (step end) (least_address m) s start
@@ -42,23 +42,17 @@ answered end s x verdict = (
   ),
 )
 
--- what is neither accepted nor more is refused
-refused_at : (n place : ℕ) → (n ≡ 0 → ⊥) → (n ≡ 1 → ⊥) → scan_of n place ≡ Refused place
-refused_at zero place a b = absurd (a refl)
-refused_at (suc zero) place a b = absurd (b refl)
-refused_at (suc (suc n)) place a b = refl
-
-pub returns-then-answer-eq-ACCEPTED : goal.returns-then-answer-eq-ACCEPTED
-returns-then-answer-eq-ACCEPTED c =
-    let it = answered _ _ (Accepted _ _) (whole (rw c.if-answer-eq-ACCEPTED.true at c.begun-answer.ensures)) in
+pub returns-in-Accepted : goal.returns-in-Accepted
+returns-in-Accepted c =
+    let it = answered _ _ (Accepted _ _) (whole (rw c.in-Accepted.is at c.begun.ensures)) in
     record { verdict = it.0; claim = it.1.0; inside = it.1.1 }
 
-pub returns-then-answer-eq-MORE : goal.returns-then-answer-eq-MORE
-returns-then-answer-eq-MORE c =
-    let it = answered _ _ (More _) (whole (rw c.if-answer-eq-MORE.true at c.begun-answer.ensures)) in
+pub returns-in-More : goal.returns-in-More
+returns-in-More c =
+    let it = answered _ _ (More _) (whole (rw c.in-More.is at c.begun.ensures)) in
     record { verdict = it.0; claim = it.1.0; inside = it.1.1 }
 
-pub returns : goal.returns
-returns c =
-    let it = answered _ _ (Refused _) (whole (rw (refused_at _ _ c.if-answer-eq-ACCEPTED.false c.if-answer-eq-MORE.false) at c.begun-answer.ensures)) in
+pub returns-in-Refused : goal.returns-in-Refused
+returns-in-Refused c =
+    let it = answered _ _ (Refused _) (whole (rw c.in-Refused.is at c.begun.ensures)) in
     record { verdict = it.0; claim = it.1.0; inside = it.1.1 }
