@@ -1,3 +1,4 @@
+pub mod Answers
 pub mod Admits
 pub mod Demand
 pub mod Callers

@@ -1,56 +1,39 @@
-// What C callers are told of a caller's level (document 02, K14). No public function has a `requires`.
+// What C callers are told of a caller's level. No public function has a `requires`.
 #![tactic(auto)]
 
 ghost use Rattle.std.specs.Prelude.{◌≡◌};
-ghost use Rattle.profile.specs.Answers.{told_answer};
+ghost use Rattle.profile.specs.Answers.{told_profile};
 ghost use Rattle.admission.specs.Admits.{admission as admission_of};
-ghost use Rattle.admission_interface.specs.AdmissionInterface.{tells_one, told_admission, AdmissionTold};
+ghost use Rattle.admission_interface.specs.AdmissionInterface.{told_admission, AdmissionTold};
 ghost use Rattle.admission_interface.specs.KindFrom.{kind_from};
 
-use answer::refusal_number;
 use kind_code::kind_of;
 use lent::front;
 use numbers::{NUMBERS, Told, put_numbers};
 use prefix_table::is_good_table;
-use profile::{Answer, admit_header, denial_number};
+use profile::{Admitted, Denial, admit_header};
 use read_interface::read;
 use record::Kind;
 
-// An answer that tells one number.
-fn tell_one(answer: u32, first: u64) -> Told
-    ensures { result ≡ tells_one answer first }
+// What is told of a whole header.
+fn tell(said: Result<Admitted, Denial>) -> Told
+    ensures { result ≡ told_admission (told_profile said) }
 {
-    Told {
-        answer,
-        first,
-        second: 0,
-        start: 0,
-        length: 0,
-    }
-}
-
-// What an answer tells.
-fn tell(answer: Answer) -> Told
-    ensures { result ≡ told_admission (told_answer answer) }
-{
-    match answer {
-        Answer::Admitted {
-            level,
-            length,
-            start,
-            size,
-        } => Told {
+    match said {
+        Ok(caller) => Told {
             answer: 0,
-            first: level as u64,
-            second: length as u64,
-            start: start as u64,
-            length: size as u64,
+            first: caller.level as u64,
+            second: caller.length as u64,
+            start: caller.start as u64,
+            length: caller.size as u64,
         },
-        Answer::More { least } => tell_one(255, least as u64),
-        Answer::Refused { refusal, place } => {
-            tell_one(refusal_number(refusal) as u32, place as u64)
-        }
-        Answer::Denied(denial) => tell_one(denial_number(denial) as u32, 0),
+        Err(denial) => Told {
+            answer: u32::from(u8::from(denial)),
+            first: 0,
+            second: 0,
+            start: 0,
+            length: 0,
+        },
     }
 }
 
@@ -58,10 +41,7 @@ fn tell(answer: Answer) -> Told
 fn kind_from(code: u8) -> Kind
     ensures { result ≡ kind_from code }
 {
-    match kind_of(code) {
-        Some(kind) => kind,
-        None => Kind::Unspecified,
-    }
+    kind_of(code).unwrap_or(Kind::Unspecified)
 }
 
 // The answer to a table and the bytes so far. With room for 4 numbers they are told; else nothing is written. It goes by what `read` tells, and not through

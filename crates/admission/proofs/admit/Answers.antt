@@ -1,32 +1,27 @@
 -- `is_good_table` tests the table, `read` ensures the verdict, and `admit_header` what the profile makes of it.
-use Rattle.std.proofs.Common.{◌≡◌, refl, sym, ap, ap₂, ◌∙◌, subst, Bool, true, false, List, [], ℕ, ◌+◌, ◌<◌, arith, eqb, length, take, drop, length-take-le}
+use Rattle.std.proofs.Common.{◌≡◌, refl, sym, ap, ap₂, ◌∙◌, subst, Bool, true, false, List, [], ℕ, ◌+◌, eqb, length, take, drop, length-take-le}
+use Rattle.std.proofs.lemmas.Result.{err_from_is_err_and}
 use Rattle.exact.specs.Pick.{pick}
+use Rattle.fields.proofs.HeaderVerdict.{verdict}
 use Rattle.record.specs.declared.Transport.TheVariants.{Stream, Datagram}
 use Rattle.record.specs.declared.Kind.{Kind}
 use Rattle.record.specs.declared.Kind.TheVariants.{Local, Unspecified, Ip4, Ip6, Unix}
 use Rattle.record.specs.Kinds.{block_length}
-use Rattle.header.specs.Demand.{Judges}
 use Rattle.answer.specs.declared.Verdict.{Verdict}
 use Rattle.answer.specs.declared.Verdict.TheVariants.{Accepted}
 use Rattle.answer.specs.declared.Reading.{Reading}
 use Rattle.answer.specs.Answers.{told_verdict, block_area, area_of}
-use Rattle.prefix_table.specs.Table.{rows_of, Good}
+use Rattle.reader.specs.Read.{Reads}
+use Rattle.prefix_table.specs.Table.{rows_of}
 use Rattle.prefix_table.specs.TableTests.{good_table}
-use Rattle.prefix_table.proofs.TableLaws.{table_tested}
+use Rattle.header.specs.Demand.{Judges}
 use Rattle.profile.specs.Profile.{Admission, denied, origin_of, by_origin, by_version, source_level}
 use Rattle.admission.specs.Admits.{Admits, admission_by, admission}
-use Rattle.admission.proofs.Demand.{by_good, admits}
-use Rattle.admission.proofs.admit.Goals.{After-block_length-at, After-read-reading, Start}
+use Rattle.admission.proofs.Demand.{admits}
 use Rattle.admission.proofs.admit.Goals as goal
 
 promise : (table s : List ℕ) (a : Admission) → a ≡ admission table s → (a ≡ admission table s) × Admits table s a
 promise table s a e = (e, subst (Admits table s) (sym e) (admits table s))
-
-pub returns-then-bad : goal.returns-then-bad
-returns-then-bad c =
-    let x = c.args in
-    let bad : good_table x.table.now ≡ false = sym c.is_good_table-good.ensures ∙ c.if-bad.true in
-    promise x.table.now x.bytes.now (denied 34) (rw bad)
 
 -- the area from 16 + A on is the header's, where it is looked at
 area_seen : (version : ℕ) (kind : Kind) (f : List ℕ) (n level : ℕ)
@@ -46,39 +41,16 @@ area_seen version kind f n level = by (eqb version 2)
     by true = of_kind kind
     by false = refl
 
-few : (kind : Kind) → block_length kind < 217
-few Local = omega arith
-few Unspecified = omega arith
-few (Ip4 t) = omega arith
-few (Ip6 t) = omega arith
-few (Unix t) = omega arith
-
-module _ (c : After-read-reading) where
-  abbrev start : Start
-  start = (goal.at.After-read-reading c).Start
-
-  abbrev table : List ℕ
-  table = start.args.table.now
-
-  abbrev bytes : List ℕ
-  bytes = start.args.bytes.now
-
-  abbrev reading : Reading
-  reading = c.read-reading.result
-
-  good : Good table
-  good =
-      (table_tested table).0 (sym c.is_good_table-good.ensures ∙ c.if-bad.false)
-
+module _ (table bytes : List ℕ) (reading : Reading) (good : good_table table ≡ true) (reads : Reads bytes reading) where
   judged : (v : Verdict) → reading.verdict ≡ v → Judges (told_verdict bytes v reading) bytes
-  judged v e = subst (λ (w : Verdict). Judges (told_verdict bytes w reading) bytes) e c.read-reading.ensures.judged
+  judged v e = subst (λ (w : Verdict). Judges (told_verdict bytes w reading) bytes) e reads.judged
 
   -- the answer by the verdict
   by_verdict : (v : Verdict) → reading.verdict ≡ v → admission_by (rows_of table) (told_verdict bytes v reading) ≡ admission table bytes
   by_verdict v e =
       ap (λ (w : Verdict). admission_by (rows_of table) (told_verdict bytes w reading)) (sym e)
-      ∙ ap (admission_by (rows_of table)) c.read-reading.ensures.answers.told
-      ∙ sym (by_good table bytes good)
+      ∙ ap (admission_by (rows_of table)) reads.answers.told
+      ∙ ap (λ (b : Bool). pick b (admission_by (rows_of table) (verdict bytes)) (denied 34)) (sym good)
 
   -- and by the parts of an accepted header
   by_parts : (n version : ℕ) → reading.verdict ≡ Accepted n version → (header : List ℕ) (at : ℕ) → header ≡ take n bytes
@@ -94,34 +66,31 @@ module _ (c : After-read-reading) where
       ∙ area_seen version kind (take n bytes) n level
       ∙ by_verdict (Accepted n version) e
 
-module _ (c : After-block_length-at) where
-  abbrev d : After-read-reading
-  d = (goal.at.After-block_length-at c).After-read-reading
+pub returns-then-bad : goal.returns-then-bad
+returns-then-bad c =
+    let bad : good_table c.args.table.now ≡ false = sym c.is_good_table-good.ensures ∙ c.if-bad.true in
+    promise _ _ (denied 34) (rw bad)
 
-  size_is : c.block_length-at.result ≡ block_length (reading d).«record».kind
-  size_is = c.block_length-at.ensures
+pub returns-in_ok-admitted-in-Accepted : goal.returns-in_ok-admitted-in-Accepted
+returns-in_ok-admitted-in-Accepted c =
+    promise _ _ _
+    (c.in_ok-admitted-in-Accepted.ensures
+    ∙ by_parts c.args.table.now c.args.bytes.now c.read-reading.result (sym c.is_good_table-good.ensures ∙ c.if-bad.false) c.read-reading.ensures
+    c.in-Accepted.length c.in-Accepted.version c.in-Accepted.is _ _ c.front-header.ensures.2 (ap (λ (m : ℕ). 16 + m) c.block_length-at.ensures))
 
-pub overflow_add-at : goal.overflow_add-at
-overflow_add-at c =
-    let e = size_is c in
-    let h = few (reading (d c)).«record».kind in
-    omega arith
-
-pub returns-in-Accepted : goal.returns-in-Accepted
-returns-in-Accepted c =
-    let sized = (goal.at.returns-in-Accepted c).After-block_length-at in
-    let r = d sized in
-    promise (table r) (bytes r) _
-    (c.admit_header.ensures
-    ∙ by_parts r sized.in-Accepted.length sized.in-Accepted.version sized.in-Accepted.is _ _ sized.front-header.ensures.2
-    (ap (λ (m : ℕ). 16 + m) (size_is sized)))
+pub returns-in_err-admitted-in-Accepted : goal.returns-in_err-admitted-in-Accepted
+returns-in_err-admitted-in-Accepted c =
+    let p = err_from_is_err_and c.from_residual.result c.from_residual.ensures.1 in
+    rw (p.1, p.2)
+    (promise _ _ _
+    (c.in_err-admitted-in-Accepted.ensures
+    ∙ by_parts c.args.table.now c.args.bytes.now c.read-reading.result (sym c.is_good_table-good.ensures ∙ c.if-bad.false) c.read-reading.ensures
+    c.in-Accepted.length c.in-Accepted.version c.in-Accepted.is _ _ c.front-header.ensures.2 (ap (λ (m : ℕ). 16 + m) c.block_length-at.ensures)))
 
 pub returns-in-More : goal.returns-in-More
 returns-in-More c =
-    let d = (goal.at.returns-in-More c).After-read-reading in
-    promise (table d) (bytes d) _ (by_verdict d _ c.in-More.is)
+    promise _ _ _ (by_verdict c.args.table.now c.args.bytes.now c.read-reading.result (sym c.is_good_table-good.ensures ∙ c.if-bad.false) c.read-reading.ensures _ c.in-More.is)
 
 pub returns-in-Refused : goal.returns-in-Refused
 returns-in-Refused c =
-    let d = (goal.at.returns-in-Refused c).After-read-reading in
-    promise (table d) (bytes d) _ (by_verdict d _ c.in-Refused.is)
+    promise _ _ _ (by_verdict c.args.table.now c.args.bytes.now c.read-reading.result (sym c.is_good_table-good.ensures ∙ c.if-bad.false) c.read-reading.ensures _ c.in-Refused.is)
