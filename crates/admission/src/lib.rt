@@ -5,20 +5,29 @@ ghost use Rattle.std.specs.Prelude.{◌≡◌};
 ghost use Rattle.admission.specs.Admits.{Admits, admission};
 ghost use Rattle.admission.specs.Answers.{told_answer};
 
-use answer::{Refusal, Verdict};
+use answer::Stop;
 use lent::front;
 use prefix_table::is_good_table;
 use profile::{Admitted, Denial, admit_header};
-use reader::read;
+use reader::read_header;
 use record::block_length;
 
 // Why a caller is not admitted, or not yet.
 #[derive(Clone, Copy)]
 pub enum NotAdmitted {
     // As the plain reader answers.
-    More { least: usize },
-    Refused { refusal: Refusal, place: usize },
+    Stop(Stop),
     Denied(Denial),
+}
+
+impl From<Stop> for NotAdmitted {
+    ghost use Rattle.admission.specs.declared.NotAdmitted.TheVariants.{Stop};
+
+    ghost from_gives = { λ stop e. e ≡ Stop stop };
+
+    fn from(stop: Stop) -> NotAdmitted {
+        NotAdmitted::Stop(stop)
+    }
 }
 
 impl From<Denial> for NotAdmitted {
@@ -41,16 +50,10 @@ pub fn admit(table: &[u8], bytes: &[u8]) -> Result<Admitted, NotAdmitted>
     if bad {
         return Err(NotAdmitted::Denied(Denial::Table));
     }
-    let reading = read(bytes);
-    let from = reading.record;
-    match reading.verdict {
-        Verdict::Accepted { length, version } => {
-            let header = front(bytes, length);
-            let at = 16 + block_length(from.kind);
-            let admitted = admit_header(table, version, from.kind, &from.source, header, at)?;
-            Ok(admitted)
-        }
-        Verdict::More { least } => Err(NotAdmitted::More { least }),
-        Verdict::Refused { refusal, place } => Err(NotAdmitted::Refused { refusal, place }),
-    }
+    let read = read_header(bytes)?;
+    let header = front(bytes, read.length);
+    let kind = read.record.kind;
+    let at = 16 + block_length(kind);
+    let admitted = admit_header(table, read.version, kind, &read.record.source, header, at)?;
+    Ok(admitted)
 }

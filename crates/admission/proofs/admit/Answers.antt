@@ -1,22 +1,25 @@
--- `is_good_table` tests the table, `read` ensures the verdict, and `admit_header` what the profile makes of it.
+-- `is_good_table` tests the table, `read_header` ensures the verdict, and `admit_header` what the profile makes of it.
+use Rattle.std.specs.Prelude.{Result, Ok, Err}
 use Rattle.std.proofs.Common.{◌≡◌, refl, sym, ap, ap₂, ◌∙◌, subst, Bool, true, false, List, [], ℕ, ◌+◌, eqb, length, take, drop, length-take-le}
 use Rattle.std.proofs.lemmas.Result.{err_from_is_err_and}
+use Rattle.exact.specs.Claim as Claim
 use Rattle.exact.specs.Pick.{pick}
-use Rattle.fields.proofs.HeaderVerdict.{verdict}
 use Rattle.record.specs.declared.Transport.TheVariants.{Stream, Datagram}
 use Rattle.record.specs.declared.Kind.{Kind}
 use Rattle.record.specs.declared.Kind.TheVariants.{Local, Unspecified, Ip4, Ip6, Unix}
 use Rattle.record.specs.Kinds.{block_length}
-use Rattle.answer.specs.declared.Verdict.{Verdict}
-use Rattle.answer.specs.declared.Verdict.TheVariants.{Accepted}
-use Rattle.answer.specs.declared.Reading.{Reading}
-use Rattle.answer.specs.Answers.{told_verdict, block_area, area_of}
-use Rattle.reader.specs.Read.{Reads}
+use Rattle.header.specs.Header as Whole
+use Rattle.fields.proofs.HeaderVerdict.{verdict}
+use Rattle.answer.specs.declared.Header.{Header}
+use Rattle.answer.specs.declared.Stop.{Stop}
+use Rattle.answer.specs.declared.Stop.TheVariants.{More, Refused}
+use Rattle.answer.specs.Answers.{block_area, area_of}
+use Rattle.reader.specs.Read.{ReadsHeader}
 use Rattle.prefix_table.specs.Table.{rows_of}
 use Rattle.prefix_table.specs.TableTests.{good_table}
-use Rattle.header.specs.Demand.{Judges}
 use Rattle.profile.specs.Profile.{Admission, denied, origin_of, by_origin, by_version, source_level}
 use Rattle.admission.specs.Admits.{Admits, admission_by, admission}
+use Rattle.admission.specs.Answers.{told_stop}
 use Rattle.admission.proofs.Demand.{admits}
 use Rattle.admission.proofs.admit.Goals as goal
 
@@ -41,56 +44,56 @@ area_seen version kind f n level = by (eqb version 2)
     by true = of_kind kind
     by false = refl
 
-module _ (table bytes : List ℕ) (reading : Reading) (good : good_table table ≡ true) (reads : Reads bytes reading) where
-  judged : (v : Verdict) → reading.verdict ≡ v → Judges (told_verdict bytes v reading) bytes
-  judged v e = subst (λ (w : Verdict). Judges (told_verdict bytes w reading) bytes) e reads.judged
-
+module _ (table bytes : List ℕ) (good : good_table table ≡ true) where
   -- the answer by the verdict
-  by_verdict : (v : Verdict) → reading.verdict ≡ v → admission_by (rows_of table) (told_verdict bytes v reading) ≡ admission table bytes
-  by_verdict v e =
-      ap (λ (w : Verdict). admission_by (rows_of table) (told_verdict bytes w reading)) (sym e)
-      ∙ ap (admission_by (rows_of table)) reads.answers.told
-      ∙ ap (λ (b : Bool). pick b (admission_by (rows_of table) (verdict bytes)) (denied 34)) (sym good)
+  by_verdict : (v : Claim.Verdict Whole.Header) → v ≡ verdict bytes → admission_by (rows_of table) v ≡ admission table bytes
+  by_verdict v e = ap (admission_by (rows_of table)) e ∙ ap (λ (b : Bool). pick b (admission_by (rows_of table) (verdict bytes)) (denied 34)) (sym good)
 
-  -- and by the parts of an accepted header
-  by_parts : (n version : ℕ) → reading.verdict ≡ Accepted n version → (header : List ℕ) (at : ℕ) → header ≡ take n bytes
-      → at ≡ 16 + block_length reading.«record».kind
-      → by_version version (origin_of reading.«record».kind) (drop at header) (length header) (source_level (rows_of table) (origin_of reading.«record».kind) reading.«record».source)
+  -- where there is no whole header
+  by_stop : (e : Stop) → ReadsHeader bytes (Err e) → told_stop e ≡ admission table bytes
+  by_stop (More n) r = by_verdict _ r.answers
+  by_stop (Refused k p) r = by_verdict _ r.answers
+
+  -- and by the parts of one
+  by_parts : (h : Header) → ReadsHeader bytes (Ok h) → (header : List ℕ) (at : ℕ) → header ≡ take h.length bytes → at ≡ 16 + block_length h.«record».kind
+      → by_version h.version (origin_of h.«record».kind) (drop at header) (length header) (source_level (rows_of table) (origin_of h.«record».kind) h.«record».source)
       ≡ admission table bytes
-  by_parts n version e header at is place =
-      let kind = reading.«record».kind in
-      let level = source_level (rows_of table) (origin_of kind) reading.«record».source in
-      let size = length-take-le n bytes (judged (Accepted n version) e).0 in
-      ap₂ (λ (f : List ℕ) (i : ℕ). by_version version (origin_of kind) (drop i f) (length f) level) is place
-      ∙ ap (λ (m : ℕ). by_version version (origin_of kind) (drop (16 + block_length kind) (take n bytes)) m level) size
-      ∙ area_seen version kind (take n bytes) n level
-      ∙ by_verdict (Accepted n version) e
+  by_parts h r header at is place =
+      let n = h.length in
+      let kind = h.«record».kind in
+      let level = source_level (rows_of table) (origin_of kind) h.«record».source in
+      let size = length-take-le n bytes r.judged.0 in
+      ap₂ (λ (f : List ℕ) (i : ℕ). by_version h.version (origin_of kind) (drop i f) (length f) level) is place
+      ∙ ap (λ (m : ℕ). by_version h.version (origin_of kind) (drop (16 + block_length kind) (take n bytes)) m level) size
+      ∙ area_seen h.version kind (take n bytes) n level
+      ∙ by_verdict _ r.answers
 
 pub returns-then-bad : goal.returns-then-bad
 returns-then-bad c =
     let bad : good_table c.args.table.now ≡ false = sym c.is_good_table-good.ensures ∙ c.if-bad.true in
     promise _ _ (denied 34) (rw bad)
 
-pub returns-in_ok-admitted-in-Accepted : goal.returns-in_ok-admitted-in-Accepted
-returns-in_ok-admitted-in-Accepted c =
-    promise _ _ _
-    (c.in_ok-admitted-in-Accepted.ensures
-    ∙ by_parts c.args.table.now c.args.bytes.now c.read-reading.result (sym c.is_good_table-good.ensures ∙ c.if-bad.false) c.read-reading.ensures
-    c.in-Accepted.length c.in-Accepted.version c.in-Accepted.is _ _ c.front-header.ensures.2 (ap (λ (m : ℕ). 16 + m) c.block_length-at.ensures))
-
-pub returns-in_err-admitted-in-Accepted : goal.returns-in_err-admitted-in-Accepted
-returns-in_err-admitted-in-Accepted c =
+pub returns-in_err-read : goal.returns-in_err-read
+returns-in_err-read c =
     let p = err_from_is_err_and c.from_residual.result c.from_residual.ensures.1 in
-    rw (p.1, p.2)
-    (promise _ _ _
-    (c.in_err-admitted-in-Accepted.ensures
-    ∙ by_parts c.args.table.now c.args.bytes.now c.read-reading.result (sym c.is_good_table-good.ensures ∙ c.if-bad.false) c.read-reading.ensures
-    c.in-Accepted.length c.in-Accepted.version c.in-Accepted.is _ _ c.front-header.ensures.2 (ap (λ (m : ℕ). 16 + m) c.block_length-at.ensures)))
+    let good : good_table c.args.table.now ≡ true = sym c.is_good_table-good.ensures ∙ c.if-bad.false in
+    rw (p.1, p.2) (promise _ _ _ (by_stop c.args.table.now c.args.bytes.now good _ c.in_err-read.ensures))
 
-pub returns-in-More : goal.returns-in-More
-returns-in-More c =
-    promise _ _ _ (by_verdict c.args.table.now c.args.bytes.now c.read-reading.result (sym c.is_good_table-good.ensures ∙ c.if-bad.false) c.read-reading.ensures _ c.in-More.is)
+pub returns-in_err-admitted : goal.returns-in_err-admitted
+returns-in_err-admitted c =
+    let p = err_from_is_err_and c.from_residual-in_err-admitted.result c.from_residual-in_err-admitted.ensures.1 in
+    let good : good_table c.args.table.now ≡ true = sym c.is_good_table-good.ensures ∙ c.if-bad.false in
+    let parts =
+    by_parts c.args.table.now c.args.bytes.now good c.in_ok-read.read c.in_ok-read.ensures _ _ c.front-header.ensures.2
+    (ap (λ (m : ℕ). 16 + m) c.block_length-at.ensures)
+    in
+    rw (p.1, p.2) (promise _ _ _ (c.in_err-admitted.ensures ∙ parts))
 
-pub returns-in-Refused : goal.returns-in-Refused
-returns-in-Refused c =
-    promise _ _ _ (by_verdict c.args.table.now c.args.bytes.now c.read-reading.result (sym c.is_good_table-good.ensures ∙ c.if-bad.false) c.read-reading.ensures _ c.in-Refused.is)
+pub returns : goal.returns
+returns c =
+    let good : good_table c.args.table.now ≡ true = sym c.is_good_table-good.ensures ∙ c.if-bad.false in
+    let parts =
+    by_parts c.args.table.now c.args.bytes.now good c.in_ok-read.read c.in_ok-read.ensures _ _ c.front-header.ensures.2
+    (ap (λ (m : ℕ). 16 + m) c.block_length-at.ensures)
+    in
+    promise _ _ _ (c.in_ok-admitted.ensures ∙ parts)
