@@ -1,5 +1,4 @@
-// Checked reading: the plain reader's answer, and what the checksum TLV of a header says of it (document 02, K6).
-// No public function has a `requires`.
+// Checked reading: the plain reader's answer, and what the checksum TLV of a header says of it. No public function has a `requires`.
 #![tactic(auto)]
 
 ghost use Rattle.std.specs.Prelude.{◌≡◌, take, drop};
@@ -8,102 +7,97 @@ ghost use Rattle.tlv.specs.Listed.{tlvs_of};
 ghost use Rattle.crc.specs.Crc.{checksum as checksum_of_bytes, stored, cleared};
 ghost use Rattle.checksum.specs.Checked.{Checks};
 ghost use Rattle.checksum.specs.State.{state_in, state_from, checked_verdict};
-ghost use Rattle.checked_reader.specs.CheckedReading.{told_check, told_checked, UnusedChecked};
+ghost use Rattle.checked_reader.specs.CheckedReading.{told_checked};
 ghost use Rattle.checked_reader.specs.First.{FirstAt};
 
-use answer::Verdict;
+use answer::{Header, Stop, Verdict};
 use area::area_span;
 use crc::crc32c_cleared;
-use lent::{behind, front, same_bytes};
+use lent::{behind, front};
 use lookup::{Answer, lookup};
-use network32::network_bytes;
-use reader::read;
-use record::{Checksum, Kind, Record, blank, with_checksum};
+use reader::read_header;
+use record::{Checksum, Record};
 use tlv_count::has_none;
 
-// What the checksum of a header says: the state of its record, or that it is wrong.
-#[derive(Drop)]
-pub enum Check {
-    State(Checksum),
-    Wrong,
-}
-
-// A verdict as the plain reader gives it, or 23.
-#[derive(Drop)]
-pub enum CheckedVerdict {
-    Judged(Verdict),
+// Why a checked reading gives no header.
+#[derive(Clone, Copy)]
+pub enum CheckedStop {
+    // As the plain reader answers.
+    Stop(Stop),
+    // The number 23.
     WrongChecksum,
 }
 
-// A checked verdict, and the header's record with its state; where no header is accepted, the record is unspecified.
-#[derive(Drop)]
-pub struct CheckedReading {
-    pub verdict: CheckedVerdict,
-    pub record: Record,
+impl From<Stop> for CheckedStop {
+    ghost use Rattle.checked_reader.specs.declared.CheckedStop.TheVariants.{Stop};
+
+    ghost from_gives = { λ stop e. e ≡ Stop stop };
+
+    fn from(stop: Stop) -> CheckedStop {
+        CheckedStop::Stop(stop)
+    }
 }
 
 // Whether the four bytes at this place of a header are its checksum.
 fn is_right(header: &[u8], at: usize) -> bool
     ensures { result ≡ same (take 4 (drop at header.now)) (stored (checksum_of_bytes (cleared at header.now))) }
 {
-    let sum = network_bytes(crc32c_cleared(header, at));
-    same_bytes(front(behind(header, at), 4), &sum)
+    let sum = crc32c_cleared(header, at).to_be_bytes();
+    front(behind(header, at), 4) == sum.as_slice()
 }
 
-// What the first 0x03 TLV of the area says, whose value of this size starts here.
-fn check_value(header: &[u8], area: &[u8], start: usize, size: usize) -> Check
+// What the first 0x03 TLV of the area says, whose value of this size starts here: the state of the header's record, or none where the checksum is wrong.
+fn check_value(header: &[u8], area: &[u8], start: usize, size: usize) -> Option<Checksum>
     requires { FirstAt header.now area.now start size }
-    ensures { told_check result ≡ state_in header.now (tlvs_of area.now) }
+    ensures { result ≡ state_in header.now (tlvs_of area.now) }
 {
     let odd = size != 4;
     if odd {
-        return Check::Wrong;
+        return None;
     }
     if !has_none(behind(area, start + size), 0x03) {
-        return Check::Wrong;
+        return None;
     }
     if is_right(header, header.len() - area.len() + start) {
-        Check::State(Checksum::Matched)
+        Some(Checksum::Matched)
     } else {
-        Check::Wrong
+        None
     }
 }
 
-// What the checksum of a header says, whose TLV area starts at this place; absent where TLVs do not fill what is there.
-pub fn check_header(header: &[u8], start: usize) -> Check
-    ensures { told_check result ≡ state_from header.now start }
+// What the checksum of a header says, whose TLV area starts at this place: the state of its record, or none where the checksum is wrong; absent where
+// TLVs do not fill what is there.
+pub fn check_header(header: &[u8], start: usize) -> Option<Checksum>
+    ensures { result ≡ state_from header.now start }
 {
     let area = behind(header, start);
     let found = lookup(area, 0x03, area.len());
     let answer = found.answer;
     match answer {
         Answer::Found => check_value(header, area, found.start, found.length),
-        Answer::Absent => Check::State(Checksum::Absent),
-        Answer::GaveUp => Check::State(Checksum::Absent),
-        Answer::IllFormed => Check::State(Checksum::Absent),
+        Answer::Absent | Answer::GaveUp | Answer::IllFormed => Some(Checksum::Absent),
     }
 }
 
-// A checked reading of the bytes so far.
-pub fn read_checked(s: &[u8]) -> CheckedReading
-    ensures { (told_checked s.now result ≡ checked_verdict s.now)
-        × UnusedChecked result
-        × Checks s.now (told_checked s.now result) }
+// A checked reading of the bytes so far: the whole header that they begin with, its record with the state that its checksum says, or why there is none.
+pub fn read_checked(s: &[u8]) -> Result<Header, CheckedStop>
+    ensures told { told_checked s.now result ≡ checked_verdict s.now }
+    ensures claim { Checks s.now (told_checked s.now result) }
 {
-    let reading = read(s);
-    let verdict = reading.verdict;
-    let record = reading.record;
-    let kind = record.kind;
-    let span = area_span(verdict, kind, s.len());
-    let check = check_header(front(s, span.end), span.start);
-    match check {
-        Check::State(checksum) => CheckedReading {
-            verdict: CheckedVerdict::Judged(verdict),
-            record: with_checksum(record, checksum),
-        },
-        Check::Wrong => CheckedReading {
-            verdict: CheckedVerdict::WrongChecksum,
-            record: blank(Kind::Unspecified),
-        },
+    let header = read_header(s)?;
+    let verdict = Verdict::Accepted {
+        length: header.length,
+        version: header.version,
+    };
+    let area = area_span(verdict, header.record.kind, s.len());
+    match check_header(front(s, area.end), area.start) {
+        Some(checksum) => Ok(Header {
+            record: Record {
+                checksum,
+                ..header.record
+            },
+            ..header
+        }),
+        None => Err(CheckedStop::WrongChecksum),
     }
 }

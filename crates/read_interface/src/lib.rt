@@ -7,7 +7,7 @@ ghost use Rattle.checksum.specs.State.{checked_verdict};
 ghost use Rattle.read_interface.specs.ReadInterface.{spoken, spoken_checked, ReadTold};
 ghost use Rattle.read_interface.specs.LoadInterface.{LoadTold};
 
-use checked_reader::{Check, check_header};
+use checked_reader::check_header;
 use connection::{CONNECTION, put_record, put_seen};
 use kind_code::state_byte;
 use lent::front;
@@ -53,11 +53,11 @@ pub fn read_checked(bytes: &[u8], numbers: &mut [u64], connection: &mut [u8]) ->
     }
     let header = front(bytes, numbers[0] as usize);
     match check_header(header, numbers[2] as usize) {
-        Check::State(checksum) => {
+        Some(checksum) => {
             connection[221] = state_byte(checksum);
             0
         }
-        Check::Wrong => {
+        None => {
             put_record(blank(Kind::Unspecified), connection);
             put_numbers(numbers, 0, 0, 0, 0);
             23

@@ -4,9 +4,11 @@ use Rattle.std.proofs.Common.{◌≡◌, sym, ap, ◌∙◌, List, ◌++◌, ℕ
 use Rattle.exact.specs.Pick.{pick}
 use Rattle.tlv.specs.Test.{well_formed}
 use Rattle.tlv.specs.Listed.{tlvs_of}
+use mathlib.Core.Logic.{⊎_elim}
 use Rattle.lookup.specs.declared.Answer.{Answer}
+use Rattle.lookup.specs.declared.Answer.TheVariants.{Absent, GaveUp, IllFormed}
 use Rattle.lookup.specs.Lookup.{found, told_finding}
-use Rattle.record.specs.declared.Checksum.TheVariants.{Absent}
+use Rattle.record.specs.declared.Checksum.TheVariants.{Absent as NoChecksum}
 use Rattle.checksum.specs.State.{state_in, state_from}
 use Rattle.checked_reader.specs.First.{LastPart}
 use Rattle.checked_reader.proofs.FirstLaws.{fills, found_here, filled_here, absent_here}
@@ -33,10 +35,10 @@ module _ (c : After-lookup-found) where
   )
 
   -- the state by the area that was cut is the one that is promised
-  as_promised : pick (well_formed area) (state_in header (tlvs_of area)) (Some Absent) ≡ state_from header start.args.start
-  as_promised = ap (λ (a : List ℕ). pick (well_formed a) (state_in header (tlvs_of a)) (Some Absent)) area_is
+  as_promised : pick (well_formed area) (state_in header (tlvs_of area)) (Some NoChecksum) ≡ state_from header start.args.start
+  as_promised = ap (λ (a : List ℕ). pick (well_formed a) (state_in header (tlvs_of a)) (Some NoChecksum)) area_is
 
-  none_there : (x : Answer) → c.lookup-found.result.answer ≡ x → (told_finding x ≡ found → ⊥) → Some Absent ≡ state_from header start.args.start
+  none_there : (x : Answer) → c.lookup-found.result.answer ≡ x → (told_finding x ≡ found → ⊥) → Some NoChecksum ≡ state_from header start.args.start
   none_there x e other =
       absent_here area c.lookup-found.result c.lookup-found.ensures header (λ is. other (ap told_finding (sym e) ∙ is)) ∙ as_promised
 
@@ -54,10 +56,9 @@ returns-in-Found c =
     ∙ as_promised d
 
 pub returns-in-Absent : goal.returns-in-Absent
-returns-in-Absent c = none_there (goal.at.returns-in-Absent c).After-lookup-found _ c.in-Absent.is (λ e. let z : ◌≡◌ {A = ℕ} 0 1 = cc in omega arith)
-
-pub returns-in-GaveUp : goal.returns-in-GaveUp
-returns-in-GaveUp c = none_there (goal.at.returns-in-GaveUp c).After-lookup-found _ c.in-GaveUp.is (λ e. let z : ◌≡◌ {A = ℕ} 0 1 = cc in omega arith)
-
-pub returns-in-IllFormed : goal.returns-in-IllFormed
-returns-in-IllFormed c = none_there (goal.at.returns-in-IllFormed c).After-lookup-found _ c.in-IllFormed.is (λ e. let z : ◌≡◌ {A = ℕ} 0 1 = cc in omega arith)
+returns-in-Absent c =
+    let d = (goal.at.returns-in-Absent c).After-lookup-found in
+    ⊎_elim (λ e. none_there d Absent e (λ e. let z : ◌≡◌ {A = ℕ} 0 1 = cc in omega arith))
+    (⊎_elim (λ e. none_there d GaveUp e (λ e. let z : ◌≡◌ {A = ℕ} 0 1 = cc in omega arith))
+    (λ e. none_there d IllFormed e (λ e. let z : ◌≡◌ {A = ℕ} 0 1 = cc in omega arith)))
+    c.in-Absent.is

@@ -1,94 +1,64 @@
--- `read` ensures the verdict and `check_header` the state; the answer is the one that is claimed.
-use Rattle.std.specs.Prelude.{Some, None}
-use Rattle.std.proofs.Common.{◌≡◌, refl, sym, ap, ◌∙◌, subst, List, ℕ, arith}
-use Rattle.exact.specs.Claim as Claim
-use Rattle.exact.specs.Claim.{accepted, more, refused}
-use Rattle.record.specs.declared.Kind.TheVariants.{Unspecified}
+-- `read_header` ensures the verdict and `check_header` the state; the answer is the one that is claimed.
+use Rattle.std.specs.Prelude.{Option, Some, None, Result, Ok, Err}
+use Rattle.std.proofs.Common.{◌≡◌, refl, sym, ap, ◌∙◌, subst, List, ℕ, length, take}
+use Rattle.std.proofs.lemmas.Result.{err_from_is_err_and}
 use Rattle.record.specs.declared.Checksum.{Checksum}
-use Rattle.record.specs.declared.Checksum.TheVariants.{Absent}
-use Rattle.record.specs.declared.Record.{Record}
-use Rattle.record.specs.Records.{with_checksum, bare}
-use Rattle.header.specs.Header.{Header}
 use Rattle.fields.proofs.HeaderVerdict.{verdict}
-use Rattle.answer.specs.declared.Verdict.{Verdict}
-use Rattle.answer.specs.declared.Verdict.TheVariants.{Accepted, More, Refused}
-use Rattle.answer.specs.declared.Reading.{Reading}
-use Rattle.answer.specs.Answers.{told_verdict, BareUnless}
-use Rattle.reader.specs.Read.{Reads}
-use Rattle.checksum.specs.Checked.{judged, refuses, Checks}
+use Rattle.answer.specs.declared.Verdict.TheVariants.{Accepted}
+use Rattle.answer.specs.declared.Header.{Header}
+use Rattle.answer.specs.declared.Stop.{Stop}
+use Rattle.answer.specs.declared.Stop.TheVariants.{More, Refused}
+use Rattle.answer.specs.Headers.{told_stop, told_header}
+use Rattle.area.specs.Area.{area_start, area_end}
+use Rattle.reader.specs.Read.{ReadsHeader}
+use Rattle.checksum.specs.Checked.{CheckedVerdict, judged, Checks}
 use Rattle.checksum.specs.State.{state_from, state_on, checked_by, checked_verdict}
 use Rattle.checksum.proofs.Demand.{checks}
-use Rattle.checked_reader.specs.declared.Check.{Check}
-use Rattle.checked_reader.specs.declared.CheckedVerdict.TheVariants.{Judged, WrongChecksum}
-use Rattle.checked_reader.specs.declared.CheckedReading.{CheckedReading}
-use Rattle.checked_reader.specs.CheckedReading.{told_check, as_reading, told_checked, UnusedChecked}
 use Rattle.checked_reader.proofs.SpanLaws.{state_spanned}
-use Rattle.checked_reader.proofs.read_checked.Goals.{After-check_header-check}
 use Rattle.checked_reader.proofs.read_checked.Goals as goal
 
 module _ (s : List ℕ) where
-  abbrev Promise : CheckedReading → Type 0
-  Promise x = (told_checked s x ≡ checked_verdict s) × UnusedChecked x × Checks s (told_checked s x)
+  -- what is answered is claimed
+  claimed : (x : CheckedVerdict) → x ≡ checked_verdict s → Checks s x
+  claimed x e = subst (Checks s) (sym e) (checks s)
 
-  promise : (x : CheckedReading) → told_checked s x ≡ checked_verdict s → UnusedChecked x → Promise x
-  promise x e unused = (e, unused, subst (Checks s) (sym e) (checks s))
+  -- where there is no whole header
+  by_stop : (e : Stop) → ReadsHeader s (Err e) → judged (told_stop e) ≡ checked_verdict s
+  by_stop (More n) r = ap (λ v. checked_by v (state_on s v)) r.answers
+  by_stop (Refused k p) r = ap (λ v. checked_by v (state_on s v)) r.answers
 
-  -- the record takes the state, and where nothing is accepted there is none to take
-  in_state : (w : Verdict) (r : Reading) (c : Checksum) → judged (told_verdict s w (as_reading w (with_checksum c r.record))) ≡ checked_by (told_verdict s w r) (Some c)
-  in_state (Accepted n v) r c = refl
-  in_state (More n) r c = refl
-  in_state (Refused k p) r c = refl
+  -- the state of one
+  module _ (h : Header) (r : ReadsHeader s (Ok h)) (state : Option Checksum) (start end : ℕ)
+      (from : start ≡ area_start (Accepted h.length h.version) h.«record».kind (length s)) (to : end ≡ area_end (Accepted h.length h.version) h.«record».kind (length s))
+      (said : state ≡ state_from (take end s) start) where
+    by_state_lem : checked_by (told_header s (Ok h)) state ≡ checked_verdict s
+    by_state_lem =
+        ap (checked_by (told_header s (Ok h)))
+        (said ∙ state_spanned s (Accepted h.length h.version) (record { verdict = Accepted h.length h.version; «record» = h.«record» }) r.judged start end from to)
+        ∙ ap (λ v. checked_by v (state_on s v)) r.answers
 
-  bare_absent : (r : Record) (c : Checksum) → Some c ≡ Some Absent → r ≡ bare Unspecified → with_checksum c r ≡ bare Unspecified
-  bare_absent r c e u = let is : c ≡ Absent = cc in rw (is, u)
+pub returns-in_err-header-clause-told : goal.returns-in_err-header-clause-told
+returns-in_err-header-clause-told c =
+    let p = err_from_is_err_and c.from_residual.result c.from_residual.ensures.1 in
+    rw (p.1, p.2) (by_stop c.args.s.now _ c.in_err-header.ensures)
 
-  bare_still : (w : Verdict) (r : Reading) (v : Claim.Verdict Header) (c : Checksum) → told_verdict s w r ≡ v → Some c ≡ state_on s v → BareUnless w r
-      → BareUnless w (as_reading w (with_checksum c r.record))
-  bare_still (Accepted n x) r v c e f u = tt
-  bare_still (More n) r v c e f u = bare_absent r.record c (f ∙ ap (state_on s) (sym e)) u
-  bare_still (Refused k p) r v c e f u = bare_absent r.record c (f ∙ ap (state_on s) (sym e)) u
+pub returns-in_err-header-clause-claim : goal.returns-in_err-header-clause-claim
+returns-in_err-header-clause-claim c =
+    let p = err_from_is_err_and c.from_residual.result c.from_residual.ensures.1 in
+    rw (p.1, p.2) (claimed c.args.s.now _ (by_stop c.args.s.now _ c.in_err-header.ensures))
 
-  wrong_only : (v : Claim.Verdict Header) → None ≡ state_on s v → refuses 23 ≡ checked_by v (state_on s v)
-  wrong_only (accepted h n) e = ap (checked_by (accepted h n)) e
-  wrong_only (more n) e = let z : ◌≡◌ {A = ℕ} 0 1 = cc in absurd (omega arith)
-  wrong_only (refused k p) e = let z : ◌≡◌ {A = ℕ} 0 1 = cc in absurd (omega arith)
+pub returns-in-Some-clause-told : goal.returns-in-Some-clause-told
+returns-in-Some-clause-told c =
+    by_state_lem c.args.s.now c.in_ok-header.header c.in_ok-header.ensures _ _ _ c.area_span-area.ensures.0 c.area_span-area.ensures.1
+    (sym c.in-Some.is ∙ c.check_header.ensures ∙ ap (λ (f : List ℕ). state_from f c.area_span-area.result.start) c.front.ensures.2)
 
-module _ (c : After-check_header-check) where
-  abbrev bytes : List ℕ
-  bytes = c.args.s.now
+pub returns-in-Some-clause-claim : goal.returns-in-Some-clause-claim
+returns-in-Some-clause-claim c = claimed c.args.s.now _ (returns-in-Some-clause-told c)
 
-  abbrev reading : Reading
-  reading = c.read-reading.result
+pub returns-in-None-clause-told : goal.returns-in-None-clause-told
+returns-in-None-clause-told c =
+    by_state_lem c.args.s.now c.in_ok-header.header c.in_ok-header.ensures _ _ _ c.area_span-area.ensures.0 c.area_span-area.ensures.1
+    (sym c.in-None.is ∙ c.check_header.ensures ∙ ap (λ (f : List ℕ). state_from f c.area_span-area.result.start) c.front.ensures.2)
 
-  reads : Reads bytes reading
-  reads = c.read-reading.ensures
-
-  state : (x : Check) → c.check_header-check.result ≡ x → told_check x ≡ state_on bytes (verdict bytes)
-  state x e =
-      ap told_check (sym e)
-      ∙ c.check_header-check.ensures
-      ∙ ap (λ (f : List ℕ). state_from f c.area_span-span.result.start) c.front.ensures.2
-      ∙ state_spanned bytes reading.verdict reading reads.judged c.area_span-span.result.start c.area_span-span.result.end c.area_span-span.ensures.0 c.area_span-span.ensures.1
-      ∙ ap (state_on bytes) reads.answers.told
-
-  told : (checksum : Checksum) → Some checksum ≡ state_on bytes (verdict bytes)
-      → judged (told_verdict bytes reading.verdict (as_reading reading.verdict (with_checksum checksum reading.record))) ≡ checked_verdict bytes
-  told checksum e =
-      in_state bytes reading.verdict reading checksum
-      ∙ ap (λ (v : Claim.Verdict Header). checked_by v (Some checksum)) reads.answers.told
-      ∙ ap (checked_by (verdict bytes)) e
-
-pub returns-in-State : goal.returns-in-State
-returns-in-State c =
-    let d = (goal.at.returns-in-State c).After-check_header-check in
-    let checksum = c.in-State.checksum in
-    let e = state d _ c.in-State.is in
-    subst (λ (r : Record). Promise (bytes d) (record { verdict = Judged (reading d).verdict; «record» = r })) (sym c.with_checksum.ensures)
-    (promise (bytes d) (record { verdict = Judged (reading d).verdict; «record» = with_checksum checksum (reading d).record }) (told d checksum e)
-    (bare_still (bytes d) (reading d).verdict (reading d) (verdict (bytes d)) checksum (reads d).answers.told e (reads d).answers.unused))
-
-pub returns-in-Wrong : goal.returns-in-Wrong
-returns-in-Wrong c =
-    let d = (goal.at.returns-in-Wrong c).After-check_header-check in
-    promise (bytes d) (record { verdict = WrongChecksum; «record» = c.blank.result })
-    (wrong_only (bytes d) (verdict (bytes d)) (state d _ c.in-Wrong.is)) c.blank.ensures
+pub returns-in-None-clause-claim : goal.returns-in-None-clause-claim
+returns-in-None-clause-claim c = claimed c.args.s.now _ (returns-in-None-clause-told c)

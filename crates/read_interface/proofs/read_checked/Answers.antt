@@ -1,12 +1,12 @@
 -- `read` ensures what is told, and `check_header` the state of an accepted header.
 use Rattle.std.proofs.Common.{◌≡◌, sym, ap, ap₂, ◌∙◌, subst, List, ℕ, ◌-◌, arith, length, take, get_or}
+use Rattle.std.specs.Prelude.{Option}
+use Rattle.record.specs.declared.Checksum.{Checksum}
 use Rattle.record.specs.declared.Record.{Record}
 use Rattle.lent.specs.Buffers.{told_in}
 use Rattle.connection.specs.Connection.{connection_size, connection_bytes}
 use Rattle.fields.proofs.HeaderVerdict.{verdict}
 use Rattle.checksum.specs.State.{state_from, state_on}
-use Rattle.checked_reader.specs.declared.Check.{Check}
-use Rattle.checked_reader.specs.CheckedReading.{told_check}
 use Rattle.read_interface.specs.ReadInterface.{spoken, ReadTold}
 use Rattle.read_interface.proofs.AcceptedTold.{AcceptedTold, accepted_told, long_numbers, long_connection}
 use Rattle.read_interface.proofs.CheckedLaws.{passed_on, state_told, state_written, wrong_written}
@@ -57,9 +57,9 @@ module _ (c : After-check_header) where
   third : get_or (numbers_left d) 2 0 ≡ (a d).size - length (a d).header.area
   third = ap (λ (l : List ℕ). get_or l 2 0) (a d).numbers_told
 
-  state : (x : Check) → c.check_header.result ≡ x → told_check x ≡ state_on (bytes d) (verdict (bytes d))
+  state : (x : Option Checksum) → c.check_header.result ≡ x → x ≡ state_on (bytes d) (verdict (bytes d))
   state x e =
-      ap told_check (sym e)
+      sym e
       ∙ c.check_header.ensures
       ∙ ap₂ state_from (c.front-header.ensures.2 ∙ ap (λ (n : ℕ). take n (bytes d)) first) third
       ∙ state_told (bytes d) (numbers d) (connection d) (numbers_left d) (connection_left d) (a d)
@@ -82,21 +82,21 @@ bounds-connection-221 c =
     let h = long_connection (bytes e) (numbers e) (connection e) (numbers_left e) (connection_left e) (a e) in
     omega arith
 
-pub returns-in-State : goal.returns-in-State
-returns-in-State c =
-    let checked = (goal.at.returns-in-State c).After-check_header in
+pub returns-in-Some : goal.returns-in-Some
+returns-in-Some c =
+    let checked = (goal.at.returns-in-Some c).After-check_header in
     let e = d checked in
-    state_written (bytes e) (numbers e) (connection e) (numbers_left e) (connection_left e) (a e) c.in-State.checksum _ c.state_byte.ensures
-    (state checked _ c.in-State.is)
+    state_written (bytes e) (numbers e) (connection e) (numbers_left e) (connection_left e) (a e) c.in-Some.checksum _ c.state_byte.ensures
+    (state checked _ c.in-Some.is)
 
-pub returns-in-Wrong : goal.returns-in-Wrong
-returns-in-Wrong c =
-    let put = (goal.at.returns-in-Wrong c).After-put_numbers in
+pub returns-in-None : goal.returns-in-None
+returns-in-None c =
+    let put = (goal.at.returns-in-None c).After-put_numbers in
     let connected = (goal.at.After-put_numbers put).After-put_record in
     let blanked = (goal.at.After-put_record connected).After-blank in
     let checked = (goal.at.After-blank blanked).After-check_header in
     let e = d checked in
-    wrong_written (bytes e) (numbers e) (connection e) (numbers_left e) (connection_left e) (a e) _ _ (state checked _ blanked.in-Wrong.is)
+    wrong_written (bytes e) (numbers e) (connection e) (numbers_left e) (connection_left e) (a e) _ _ (state checked _ blanked.in-None.is)
     put.put_numbers.ensures
     (connected.put_record.ensures
     ∙ ap (λ (r : Record). told_in connection_size (connection_bytes r) (connection_left e)) blanked.blank.ensures)
