@@ -55,5 +55,5 @@ pub fn literal(s: &[u8], w: &[u8]) -> Scan<()>
 pub fn number(high: u8, low: u8) -> u16
     ensures { result ≡ number_of high low }
 {
-    high as u16 * 256 + low as u16
+    u16::from_be_bytes([high, low])
 }
