@@ -117,9 +117,6 @@ returns-then-whole-clause-verdict c k m =
     let w = c.args.w.now in
     word_all k m s (length w) w (starts s w _ c.starts_with-whole.ensures.value c.if-whole.true) refl
 
-pub returns-then-whole-clause-claim : goal.returns-then-whole-clause-claim
-returns-then-whole-clause-claim c = claimed _ _ (bytes_of _ c.type_inv.w) (returns-then-whole-clause-verdict c)
-
 pub returns-then-n-s-clause-verdict : goal.returns-then-n-s-clause-verdict
 returns-then-n-s-clause-verdict c k m =
     let s = c.args.s.now in
