@@ -1,11 +1,6 @@
 -- The first byte tells the version.
-use mathlib.Core.Path.{◌≡◌, refl, sym, ap, subst}
-use mathlib.Core.Bool.{Bool, true, false}
-use mathlib.Core.List.{List, [], ◌∷◌}
-use Prim.Native.Nat.{ℕ}
-use native.Mathlib.Omega.{arith}
-use lib.ListN.{length, get_or}
-use borrow.Author.Tests.{eq-eqb, ne_eqb}
+use Rattle.std.specs.Prelude.{◌≡◌, refl, Bool, true, false, List, [], ◌∷◌, ℕ, Some, None, slice_get}
+use Rattle.std.proofs.Common.{sym, ap, ◌∙◌, subst, eq-eqb, ne_eqb}
 use Rattle.exact.specs.Claim.{Verdict, more}
 use Rattle.exact.specs.Pick.{pick}
 use Rattle.header.specs.Header.{Header}
@@ -24,16 +19,17 @@ reads_as {s} a e =
     let here = sees_as a e in
     (record { judged = subst (λ (v : Verdict Header). Judges v s) (sym here.answers.told) (judges s); answers = here.answers }, here.caller)
 
-pub none_yet : (s : List ℕ) → length s ≡ 0 → more 15 ≡ verdict s
+pub none_yet : (s : List ℕ) → None ≡ slice_get s 0 → more 15 ≡ verdict s
 none_yet [] e = refl
-none_yet (c ∷ s) e = absurd (omega arith)
+none_yet (d ∷ s) e = absurd (cc)
 
-by_version : (s : List ℕ) (b : Bool) → (length s ≡ 0 → ⊥) → is_p (get_or s 0 0) ≡ b → pick b (line_field.verdict s) (block.verdict s) ≡ verdict s
-by_version [] b some e = absurd (some refl)
-by_version (c ∷ s) b some e = ap (λ (x : Bool). pick x (line_field.verdict (c ∷ s)) (block.verdict (c ∷ s))) (sym e)
+by_version : (d : ℕ) (s : List ℕ) (b : Bool) → is_p d ≡ b → pick b (line_field.verdict (d ∷ s)) (block.verdict (d ∷ s)) ≡ verdict (d ∷ s)
+by_version d s b e = ap (λ (x : Bool). pick x (line_field.verdict (d ∷ s)) (block.verdict (d ∷ s))) (sym e)
 
-pub of_line : (s : List ℕ) → (length s ≡ 0 → ⊥) → get_or s 0 0 ≡ 80 → line_field.verdict s ≡ verdict s
-of_line s some e = by_version s true some (eq-eqb (get_or s 0 0) 80 e)
+pub of_line : (s : List ℕ) (c : ℕ) → Some c ≡ slice_get s 0 → c ≡ 80 → line_field.verdict s ≡ verdict s
+of_line [] c e h = absurd (cc)
+of_line (d ∷ s) c e h = let same : d ≡ 80 = cc in by_version d s true (eq-eqb d 80 same)
 
-pub of_block : (s : List ℕ) → (length s ≡ 0 → ⊥) → (get_or s 0 0 ≡ 80 → ⊥) → block.verdict s ≡ verdict s
-of_block s some n = by_version s false some (ne_eqb (get_or s 0 0) 80 n)
+pub of_block : (s : List ℕ) (c : ℕ) → Some c ≡ slice_get s 0 → (c ≡ 80 → ⊥) → block.verdict s ≡ verdict s
+of_block [] c e n = absurd (cc)
+of_block (d ∷ s) c e n = let same : c ≡ d = cc in by_version d s false (ne_eqb d 80 (λ z. n (same ∙ z)))

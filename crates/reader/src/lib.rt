@@ -41,13 +41,14 @@ pub fn see(s: &[u8]) -> Seen
     ensures reads { Reads s.now (reading_of s.now result) }
     ensures caller { result.caller ≡ caller_by (verdict_on s.now) }
 {
-    let empty = s.len() == 0;
-    if empty {
+    match s.first() {
         // "PROXY UNKNOWN" and CR LF: 13 + 2.
-        return more(15);
+        None => more(15),
+        Some(first) => {
+            let text = *first == b'P';
+            if text { line(s) } else { seen_of(block(s)) }
+        }
     }
-    let text = s[0] == b'P';
-    if text { line(s) } else { seen_of(block(s)) }
 }
 
 // The record of what is seen in s.
