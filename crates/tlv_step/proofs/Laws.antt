@@ -6,7 +6,7 @@ use Rattle.tlv.specs.Tlv.{Tlv, Area, WellFormed}
 use Rattle.tlv.specs.Test.{well_formed}
 use Rattle.tlv.proofs.Test.{well_formed_tested, ill_formed_tested}
 use Rattle.tlv.proofs.Heads.{head_type, head_size, head_room, head_value, head_rest}
-use Rattle.tlv_step.specs.Step.{shown, end, refused, head_at, step_at, value_of, place_after}
+use Rattle.tlv_step.specs.Step.{Step, shown, end, refused, head_at, step_at, value_of, place_after}
 use Rattle.tlv_step.specs.Walk.{Shows}
 use Rattle.tlv_step.proofs.Facts.{head_beyond, head_end, head_shown}
 
@@ -14,6 +14,9 @@ module _ (s : List ℕ) (at : ℕ) where
   -- where what remains is well-formed, the TLV at the place says all
   pub step_head : WellFormed (drop at s) → step_at s at ≡ head_at s at
   step_head w = rw ((well_formed_tested (drop at s)).1 w)
+
+  pub from_head : (r : Step) → WellFormed (drop at s) → r ≡ head_at s at → r ≡ step_at s at
+  from_head r w e = e ∙ sym (step_head w)
 
   -- "if what remains from its place is ill-formed, or the place lies beyond the area, the step answers 12 and the walker stays where it was"
   step_refused : (WellFormed (drop at s) → ⊥) ⊎ (length s < at) → step_at s at ≡ refused 12

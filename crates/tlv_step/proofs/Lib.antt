@@ -1,3 +1,3 @@
-pub mod Within
 pub mod Facts
 pub mod Laws
+pub mod Left

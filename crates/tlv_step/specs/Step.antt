@@ -1,11 +1,11 @@
--- A step of a walker over a TLV area: document 01, "Looking into TLVs".
-use Rattle.std.specs.Prelude.{◌≡◌, List, ℕ, ◌+◌, ltb, leb, length, get_or, take, drop}
+-- A step over a TLV area.
+use Rattle.std.specs.Prelude.{◌≡◌, List, ℕ, ◌+◌, ltb, leb, length, get_or, take, drop, Option, Some, None, Result, Ok, Err}
 use Rattle.std.specs.Borrow.{Bor}
 use Rattle.exact.specs.Pick.{pick}
 use Rattle.tlv.specs.Test.{well_formed}
 use Rattle.tlv.specs.Heads.{size_at}
-use Rattle.tlv_step.specs.declared.Shown.{Shown}
-use Rattle.tlv_step.specs.declared.Shown.TheVariants.{Tlv, End, Refused}
+use Rattle.tlv_step.specs.declared.IllFormed.{IllFormed}
+use Rattle.tlv_step.specs.declared.Tlv.{Tlv}
 
 -- "Each step shows the type and the value as the very part of the lent bytes, or the end", or answers a number; the part is told by its start and size
 pub data Step : Type 0 where
@@ -13,11 +13,11 @@ pub data Step : Type 0 where
   end : Step
   refused : (number : ℕ) → Step
 
--- "this paper's number and values for each of its cases"
-abbrev pub told_step : Shown → Step
-told_step (Tlv type start size) = shown type start size
-told_step End = end
-told_step Refused = refused 12
+-- the code's answer, by its number and values
+abbrev pub told_step : Result (Option Tlv) IllFormed → Step
+told_step (Ok (Some t)) = shown t.tlv_type t.start t.length
+told_step (Ok None) = end
+told_step (Err e) = refused 12
 
 -- "the type and the value", or "the end": 12, if the TLV does not end in the area or "the place lies beyond the area"
 abbrev pub head_at : List ℕ → ℕ → Step

@@ -1,116 +1,147 @@
-// One step over a TLV area, on the slice and a place (document 01, "Looking into TLVs"). No public function has a `requires`.
+// Looking into a TLV area: one step over it, on the slice and a place; and the TLVs of a well-formed area, one after the other.
+// No public function has a `requires`.
 #![tactic(auto)]
 
-ghost use Rattle.std.specs.Prelude.{◌≡◌, drop};
+ghost use Rattle.std.specs.Prelude.{◌≡◌, ◌+◌, ◌≤◌, true, leb, drop, length, is_ok, IfOk};
 ghost use Rattle.tlv.specs.Tlv.{WellFormed};
-ghost use Rattle.tlv_step.specs.Step.{told_step, head_at, step_at, ValuePart, place_after, within};
+ghost use Rattle.tlv.specs.Test.{well_formed};
+ghost use Rattle.tlv_step.specs.Step.{told_step, head_at, step_at, start_of, length_of, ValuePart, place_after, within};
 
 use exact::number;
 
-// What a step shows: a TLV's type, where its value starts in the area and its length; or the end; or the refusal, 12.
+/// TLVs do not fill the bytes: the number 12.
 #[derive(Clone, Copy)]
-pub enum Shown {
-    Tlv {
-        tlv_type: u8,
-        start: usize,
-        length: usize,
-    },
-    End,
-    Refused,
+pub struct IllFormed;
+
+/// A TLV of an area: its type, where its value starts in the area, and its length.
+#[derive(Clone, Copy)]
+pub struct Tlv {
+    pub tlv_type: u8,
+    pub start: usize,
+    pub length: usize,
 }
 
-// What stands at a place, with no look at what lies behind that TLV: for a caller who knows that what remains is well-formed.
-pub fn head_at(area: &[u8], at: usize) -> Shown
-    ensures { (told_step result ≡ head_at area.now at)
-        × (WellFormed (drop at area.now) → told_step result ≡ step_at area.now at) }
-{
-    if area.len() <= at {
-        if area.len() < at {
-            Shown::Refused
-        } else {
-            Shown::End
-        }
-    } else {
-        if area.len() - at < 3 {
-            Shown::Refused
-        } else {
-            let length = number(area[at + 1], area[at + 2]) as usize;
-            if area.len() - at - 3 < length {
-                Shown::Refused
-            } else {
-                let tlv_type = area[at];
-                let start = at + 3;
-                Shown::Tlv {
-                    tlv_type,
-                    start,
-                    length,
-                }
-            }
-        }
-    }
-}
-
-// What stands at a place, if what remains from it is well-formed: each step looks at all of it.
-pub fn step_at(area: &[u8], at: usize) -> Shown
-    ensures { told_step result ≡ step_at area.now at }
+/// What stands at a place, a TLV or the end, with no look at what lies behind that TLV: for a caller who knows that what remains is well-formed.
+pub fn head_at(area: &[u8], at: usize) -> Result<Option<Tlv>, IllFormed>
+    ensures head { told_step result ≡ head_at area.now at }
+    ensures inside { start_of (told_step result) + length_of (told_step result) ≤ length area.now }
+    ensures step { WellFormed (drop at area.now) → told_step result ≡ step_at area.now at }
 {
     if area.len() < at {
-        Shown::Refused
-    } else {
-        if tlv::well_formed(&area[at..]) {
-            head_at(area, at)
-        } else {
-            Shown::Refused
+        return Err(IllFormed);
+    }
+    match &area[at..] {
+        [] => Ok(None),
+        [tlv_type, high, low, value @ ..] => {
+            let length = number(*high, *low) as usize;
+            if value.len() < length {
+                return Err(IllFormed);
+            }
+            Ok(Some(Tlv {
+                tlv_type: *tlv_type,
+                start: at + 3,
+                length,
+            }))
         }
+        _ => Err(IllFormed),
     }
 }
 
-// The value of what a step has shown, with no second look at what remains. Where that doesn't lie in the area, the empty part at 0.
-pub fn value_of(area: &[u8], shown: Shown) -> &[u8]
+/// What stands at a place, if what remains from it is well-formed: each step looks at all of it.
+pub fn step_at(area: &[u8], at: usize) -> Result<Option<Tlv>, IllFormed>
+    ensures step { told_step result ≡ step_at area.now at }
+    ensures inside { start_of (told_step result) + length_of (told_step result) ≤ length area.now }
+{
+    let rest = area.get(at..).ok_or(IllFormed)?;
+    TlvArea::new(rest)?;
+    head_at(area, at)
+}
+
+// Whether a TLV's value lies in the area.
+fn lies_in(tlv: Tlv, area: &[u8]) -> bool
+    ensures { result ≡ leb (tlv.start + tlv.length) (length area.now) }
+{
+    tlv.start <= area.len() && tlv.length <= area.len() - tlv.start
+}
+
+/// The value of what a step has shown, with no second look at what remains. Where that doesn't lie in the area, the empty part at 0.
+pub fn value_of(area: &[u8], shown: Result<Option<Tlv>, IllFormed>) -> &[u8]
     ensures { ValuePart area.entry (within area.now (told_step shown)) result }
 {
     match shown {
-        Shown::Tlv {
-            tlv_type: _,
-            start,
-            length,
-        } => {
-            if start <= area.len() {
-                if length <= area.len() - start {
-                    &area[start..start + length]
-                } else {
-                    &area[0..0]
-                }
-            } else {
-                &area[0..0]
-            }
-        }
-        Shown::End => &area[0..0],
-        Shown::Refused => &area[0..0],
+        Ok(Some(tlv)) if lies_in(tlv, area) => &area[tlv.start..tlv.start + tlv.length],
+        _ => &area[0..0],
     }
 }
 
-// The place after what a step has shown at a place. Where that doesn't lie in the area, the same place.
-pub fn place_of(area: &[u8], at: usize, shown: Shown) -> usize
+/// The place after what a step has shown at a place. Where that doesn't lie in the area, the same place.
+pub fn place_of(area: &[u8], at: usize, shown: Result<Option<Tlv>, IllFormed>) -> usize
     ensures { result ≡ place_after at (within area.now (told_step shown)) }
 {
     match shown {
-        Shown::Tlv {
-            tlv_type: _,
-            start,
-            length,
-        } => {
-            if start <= area.len() {
-                if length <= area.len() - start {
-                    start + length
-                } else {
-                    at
-                }
-            } else {
-                at
-            }
+        Ok(Some(tlv)) if lies_in(tlv, area) => tlv.start + tlv.length,
+        _ => at,
+    }
+}
+
+/// Bytes that TLVs fill.
+#[derive(Clone, Copy)]
+pub struct TlvArea<'a> {
+    pub bytes: &'a [u8],
+    pub ghost filled: { well_formed bytes.now ≡ true },
+}
+
+impl<'a> TlvArea<'a> {
+    /// The test, once for all looks into the area.
+    pub fn new(bytes: &'a [u8]) -> Result<TlvArea<'a>, IllFormed>
+        ensures same { IfOk result (λ area. area.bytes ≡ bytes.entry) }
+        ensures tested { is_ok result ≡ well_formed bytes.now }
+    {
+        if tlv::well_formed(bytes) {
+            Ok(TlvArea { bytes })
+        } else {
+            Err(IllFormed)
         }
-        Shown::End => at,
-        Shown::Refused => at,
+    }
+
+    /// Its TLVs, from the first on.
+    pub fn tlvs(self) -> Tlvs<'a>
+        ensures area { result.area ≡ self.entry.bytes }
+        ensures place { result.at ≡ 0 }
+    {
+        Tlvs {
+            area: self.bytes,
+            at: 0,
+        }
+    }
+}
+
+/// The TLVs of a well-formed area from a place on.
+#[derive(Clone, Copy)]
+pub struct Tlvs<'a> {
+    pub area: &'a [u8],
+    pub at: usize,
+    pub ghost filled: { well_formed (drop at area.now) ≡ true },
+}
+
+impl<'a> Iterator for Tlvs<'a> {
+    ghost use Rattle.std.specs.Iterator.{YieldsFirst, item_count};
+    ghost use Rattle.tlv_step.specs.Left.{tlvs_left};
+
+    type Item = Tlv;
+
+    ghost next_gives = { YieldsFirst tlvs_left };
+
+    ghost remaining = { item_count tlvs_left };
+
+    fn next(&mut self) -> Option<Tlv> {
+        match head_at(self.area, self.at) {
+            Ok(Some(tlv)) => {
+                self.at = tlv.start + tlv.length;
+                Some(tlv)
+            }
+            Ok(None) => None,
+            Err(_) => None,
+        }
     }
 }
