@@ -1,4 +1,3 @@
 pub mod NoteLaws
-pub mod Turn
 pub mod Laws
 pub mod Noted

@@ -1,11 +1,15 @@
 -- Lemmas on what specs/Noted.antt defines.
-use Rattle.std.specs.Prelude.{◌≡◌, refl, Bool, true, false, List, [], ◌∷◌, ◌++◌, ℕ, zero, suc, ◌+◌, ◌<◌, eqb, ltb, length, Option}
-use Rattle.std.proofs.Common.{sym, ap, ap₂, ◌∙◌, arith, ltb-true, lt-ltb, le-ltb, length-append}
+use Rattle.std.specs.Prelude.{◌≡◌, refl, Bool, true, false, List, [], ◌∷◌, ◌++◌, ℕ, zero, suc, ◌+◌, ◌<◌, eqb, ltb, length, replicate, Option, None}
+use Rattle.std.proofs.Common.{sym, ap, ap₂, ◌∙◌, arith, ltb-true, lt-ltb, le-ltb, length-append, append-nil, append_assoc}
 use Rattle.exact.specs.Pick.{pick}
-use Rattle.tlv.specs.Tlv.{Tlv}
+use Rattle.tlv.specs.Tlv.{Tlv, written}
+use Rattle.tlv.specs.Listed.{tlvs_of}
+use Rattle.tlv.proofs.Laws.{written-append}
+use Rattle.tlv_step.specs.declared.Tlv.{Tlv as Placed}
+use Rattle.tlv_step.specs.Left.{placed, left_from}
 use Rattle.lookup.specs.Lookup.{index_of_first}
 use Rattle.lookup.proofs.JoinedLists.{either, first_joined, start_first, start_second, length_first, length_second}
-use Rattle.ssl_reader.specs.Ssl.{Part, part_at, part_of, parts_from}
+use Rattle.ssl_reader.specs.Ssl.{Part, part_at, part_of, parts_from, parts_of}
 use Rattle.ssl_reader.specs.Noted.{noted, or_part, part_behind}
 
 module _ (subs : List Tlv) (t : Tlv) (type : ℕ) where
@@ -44,3 +48,23 @@ pub parts_noted : (n type : ℕ) (subs : List Tlv) (t : Tlv)
 parts_noted zero type subs t = refl
 parts_noted (suc n) type subs t =
     ap₂ {B = List (Option Part)} (λ (p : Option Part) (l : List (Option Part)). p ∷ l) (part_noted subs t type) (parts_noted n (suc type) subs t)
+
+-- sub-TLVs at their places behind the first five bytes, noted one after the other
+abbrev pub noted_all : List Placed → List (Option Part) → List (Option Part)
+noted_all [] parts = parts
+noted_all (t ∷ rest) parts = noted_all rest (noted t.tlv_type (record { start = 5 + t.value.start; size = t.value.size }) 0x21 parts)
+
+all_noted : (front rest : List Tlv) → noted_all (placed (length (written front)) rest) (parts_of front) ≡ parts_of (front ++ rest)
+all_noted front [] = ap parts_of (sym (append-nil front))
+all_noted front (t ∷ rest) =
+    let n = length-append (written front) (written (t ∷ [])) in
+    let v = length-append t.value [] in
+    let next : length (written front) + 3 + length t.value ≡ length (written (front ++ t ∷ [])) =
+    omega (arith, ap length (written-append front (t ∷ []))) in
+    ap₂ (λ (at : ℕ) (parts : List (Option Part)). noted_all (placed at rest) parts) next (sym (parts_noted 5 0x21 front t))
+    ∙ all_noted (front ++ t ∷ []) rest
+    ∙ ap parts_of (append_assoc front (t ∷ []) rest)
+
+-- so the pieces of all of them are those of the list
+pub pieces_noted : (s : List ℕ) → noted_all (left_from s 0) (replicate 5 None) ≡ parts_of (tlvs_of s)
+pieces_noted s = all_noted [] (tlvs_of s)

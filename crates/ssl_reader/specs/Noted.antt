@@ -4,15 +4,6 @@ use Rattle.exact.specs.Pick.{pick}
 use Rattle.tlv.specs.Tlv.{Tlv, written}
 use Rattle.ssl_reader.specs.Ssl.{Part}
 
--- parts as numbers, a start and a length each; none starts at 0
-abbrev pub found_part : (start size : ℕ) → Option Part
-found_part start size = pick (eqb start 0) None (Some (record { start = start; size = size }))
-
-abbrev pub found_parts : List ℕ → List (Option Part)
-found_parts [] = []
-found_parts (start ∷ []) = []
-found_parts (start ∷ size ∷ rest) = found_part start size ∷ found_parts rest
-
 -- the part that was there first, or else this one
 abbrev pub or_part : Option Part → Part → Option Part
 or_part (Some p) q = Some p

@@ -1,4 +1,4 @@
--- The inside of TLV 0x20: document 02, K2. "one client byte, a 32-bit verify number in network order, then sub-TLVs that fill the rest by the rule for
+-- The inside of TLV 0x20: "one client byte, a 32-bit verify number in network order, then sub-TLVs that fill the rest by the rule for
 -- TLV areas"
 use Rattle.std.specs.Prelude.{Bool, true, false, ◌&&◌, List, [], ◌∷◌, ℕ, zero, suc, ◌+◌, ◌%◌, eqb, ltb, leb, length, get_or, take, drop, replicate, Option, Some, None}
 use Rattle.exact.specs.Pick.{pick}
@@ -6,6 +6,7 @@ use Rattle.network32.specs.Network32.{number32_at}
 use Rattle.tlv.specs.Tlv.{Tlv}
 use Rattle.tlv.specs.Test.{well_formed}
 use Rattle.tlv.specs.Listed.{tlvs_of}
+pub use Rattle.tlv_step.specs.declared.Part.{Part}
 use Rattle.lookup.specs.Lookup.{index_of_first, start_of, length_of}
 
 abbrev pub client_of : (value : List ℕ) → ℕ
@@ -17,11 +18,6 @@ verify_of value = number32_at value 1
 -- the sub-TLVs
 abbrev pub subs_of : (value : List ℕ) → List Tlv
 subs_of value = tlvs_of (drop 5 value)
-
--- a part of the value: where it starts, and its length
-pub record Part : Type 0 where
-  pub start : ℕ
-  pub size : ℕ
 
 -- the value of the sub-TLV with this index, "as a part of the lent bytes", in which the sub-TLVs start at 5; "or absent", where there are not so many
 abbrev pub part_at : (i : ℕ) → List Tlv → Option Part

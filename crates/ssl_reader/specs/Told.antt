@@ -1,32 +1,25 @@
--- The reader's answer in document 02's terms.
-use Rattle.std.specs.Prelude.{◌≡◌, List, [], ◌∷◌, ℕ, ◌+◌, min, length, take, drop, Option, Some, None}
+-- The reader's answer by its numbers and values.
+use Rattle.std.specs.Prelude.{◌≡◌, List, [], ◌∷◌, ℕ, ◌+◌, min, length, take, drop, replicate, Option, Some, None, Result, Ok, Err}
 use Rattle.std.specs.Borrow.{Bor}
 use Rattle.ssl_reader.specs.Ssl as Spec
 use Rattle.ssl_reader.specs.Ssl.{Part, Said, accepted, refused}
-use Rattle.ssl_reader.specs.declared.Piece.{Piece}
-use Rattle.ssl_reader.specs.declared.Piece.TheVariants.{Absent, Part as PartAt}
-use Rattle.ssl_reader.specs.declared.Outcome.{Outcome}
-use Rattle.ssl_reader.specs.declared.Outcome.TheVariants.{Accepted, IllFormed, NoVersion}
 use Rattle.ssl_reader.specs.declared.Ssl.{Ssl}
-
-abbrev pub told_part : Piece → Option Part
-told_part Absent = None
-told_part (PartAt start size) = Some (record { start = start; size = size })
+use Rattle.ssl_reader.specs.declared.SslError.{SslError}
+use Rattle.ssl_reader.specs.declared.SslError.TheVariants.{IllFormed, NoVersion}
 
 -- "19 for a value under 5 bytes or ill-formed sub-TLVs, then 20"
-abbrev pub told_outcome : Outcome → Spec.Outcome
-told_outcome Accepted = accepted
-told_outcome IllFormed = refused 19
-told_outcome NoVersion = refused 20
+abbrev pub told_outcome : Result Ssl SslError → Spec.Outcome
+told_outcome (Ok r) = accepted
+told_outcome (Err IllFormed) = refused 19
+told_outcome (Err NoVersion) = refused 20
 
-abbrev pub told_ssl : Ssl → Said
-told_ssl r =
-    record {
-      outcome = told_outcome r.outcome;
-      client = r.client;
-      verify = r.verify;
-      parts = told_part r.version ∷ told_part r.common_name ∷ told_part r.cipher ∷ told_part r.signature ∷ told_part r.key ∷ [];
-    }
+-- the five pieces
+abbrev pub parts_told : Ssl → List (Option Part)
+parts_told r = r.version ∷ r.common_name ∷ r.cipher ∷ r.signature ∷ r.key ∷ []
+
+abbrev pub told_ssl : Result Ssl SslError → Said
+told_ssl (Ok r) = record { outcome = accepted; client = r.client; verify = r.verify; parts = parts_told r }
+told_ssl (Err e) = record { outcome = told_outcome (Err e); client = 0; verify = 0; parts = replicate 5 None }
 
 -- where a part starts, and its length; an absent one is taken as the empty part at 0
 abbrev pub part_start : Option Part → ℕ

@@ -1,161 +1,106 @@
-// The inside of TLV 0x20 (document 02, K2): what a TLS front end said of its client. No public function has a `requires`.
+// The inside of TLV 0x20: what a TLS front end said of its client. No public function has a `requires`.
 #![tactic(auto)]
 
-ghost use Rattle.std.specs.Prelude.{◌≡◌, ◌<◌, length, replicate, None};
-ghost use Rattle.ssl_reader.specs.Ssl.{is_absent, lacks_version, said_in};
-ghost use Rattle.ssl_reader.specs.Told.{told_part, told_outcome, told_ssl, PartOf};
-ghost use Rattle.ssl_reader.specs.Noted.{found_part, found_parts, noted};
+ghost use Rattle.std.specs.Prelude.{◌≡◌};
+ghost use Rattle.ssl_reader.specs.Ssl.{lacks_version, said_in};
+ghost use Rattle.ssl_reader.specs.Told.{told_ssl, PartOf};
+ghost use Rattle.ssl_reader.specs.Noted.{noted};
 
 use lent::{behind, front};
 use network32::network_number;
-use tlv_step::{Shown, head_at};
+use tlv_step::{IllFormed, Part, TlvArea};
 
-// The first sub-TLV of a type: where its value starts in the value of TLV 0x20, and its length; or that there is none. Empty is not absent.
+/// Why a value is not read.
 #[derive(Clone, Copy)]
-pub enum Piece {
-    Absent,
-    Part { start: usize, length: usize },
-}
-
-// Whether the value was read, or why not: document 02's numbers 19 and 20.
-#[derive(Clone, Copy)]
-pub enum Outcome {
-    Accepted,
+pub enum SslError {
+    /// It has under five bytes, or sub-TLVs do not fill the rest: the number 19.
     IllFormed,
+    /// Bit 0x01 of the client asks for a version, and there is none: the number 20.
     NoVersion,
 }
 
-// What a value says: types 0x21 to 0x25 are the five pieces. Where it is not accepted, client and verify are 0 and each piece is absent.
-#[derive(Clone, Copy)]
-pub struct Ssl {
-    pub outcome: Outcome,
-    pub client: u8,
-    pub verify: u32,
-    pub version: Piece,
-    pub common_name: Piece,
-    pub cipher: Piece,
-    pub signature: Piece,
-    pub key: Piece,
+impl From<IllFormed> for SslError {
+    ghost use Rattle.std.specs.Prelude.{◌≡◌};
+    ghost use Rattle.ssl_reader.specs.declared.SslError.TheVariants.{IllFormed};
+
+    ghost from_gives = { λ _ e. e ≡ IllFormed };
+
+    fn from(_: IllFormed) -> SslError {
+        SslError::IllFormed
+    }
 }
 
-// Notes a sub-TLV in ten numbers, for each type the start and the length of its piece, 0 and 0 where none is noted yet: the first of its type is the piece;
-// other types and repeated ones are passed over.
-fn note(found: &mut [usize], tlv_type: u8, start: usize, size: usize)
-    requires { (length found.old ≡ 10) × (0 < start) }
-    ensures { (length found.new ≡ 10) × (found_parts found.new ≡ noted tlv_type (record { start = start; size = size }) 0x21 (found_parts found.old)) }
+/// What a value says: the sub-TLVs 0x21 to 0x25 are the five pieces, of each the first one's value as a part of the value of TLV 0x20.
+/// Empty is not absent.
+#[derive(Clone, Copy)]
+pub struct Ssl {
+    pub client: u8,
+    pub verify: u32,
+    pub version: Option<Part>,
+    pub common_name: Option<Part>,
+    pub cipher: Option<Part>,
+    pub signature: Option<Part>,
+    pub key: Option<Part>,
+}
+
+// Notes a sub-TLV among the five pieces: the first of its type is the piece; other types and repeated ones are passed over.
+fn note(pieces: &mut [Option<Part>; 5], tlv_type: u8, value: Part)
+    ensures { pieces.new ≡ noted tlv_type value 0x21 pieces.old }
 {
     if tlv_type < 0x21 {
         return;
     }
-    let i = (tlv_type - 0x21) as usize * 2;
-    if 8 < i {
+    let i = (tlv_type - 0x21) as usize;
+    if pieces.len() <= i {
         return;
     }
-    if found[i] != 0 {
+    if pieces[i].is_some() {
         return;
     }
-    found[i] = start;
-    found[i + 1] = size;
+    pieces[i] = Some(value);
 }
 
-// The piece with this start and length; absent where the start is 0, since no piece starts there.
-fn piece_at(start: usize, length: usize) -> Piece
-    ensures { told_part result ≡ found_part start length }
-{
-    if start == 0 {
-        Piece::Absent
-    } else {
-        Piece::Part { start, length }
-    }
-}
-
-// What is told where nothing is read.
-fn unread(outcome: Outcome) -> Ssl
-    ensures { told_ssl result ≡ record { outcome = told_outcome outcome; client = 0; verify = 0; parts = replicate 5 None } }
-{
-    Ssl {
-        outcome,
-        client: 0,
-        verify: 0,
-        version: Piece::Absent,
-        common_name: Piece::Absent,
-        cipher: Piece::Absent,
-        signature: Piece::Absent,
-        key: Piece::Absent,
-    }
-}
-
-// Whether there is no such piece.
-pub fn is_absent(piece: Piece) -> bool
-    ensures { result ≡ is_absent (told_part piece) }
-{
-    match piece {
-        Piece::Absent => true,
-        Piece::Part {
-            start: _,
-            length: _,
-        } => false,
-    }
-}
-
-// Whether a client with bit 0x01 has no version.
+/// Whether a client with bit 0x01 has no version.
 pub fn lacks_version(client: u8, absent: bool) -> bool
     ensures { result ≡ lacks_version client absent }
 {
     client % 2 == 1 && absent
 }
 
-// Reads the value of TLV 0x20, in one pass over its sub-TLVs: ill-formed where it has under five bytes or these do not fill it, and then without a version
-// where bit 0x01 of the client asks for one.
-pub fn read_ssl(value: &[u8]) -> Ssl
+/// Reads the value of TLV 0x20, in one pass over its sub-TLVs.
+pub fn read_ssl(value: &[u8]) -> Result<Ssl, SslError>
     ensures { told_ssl result ≡ said_in value.now }
 {
-    if value.len() < 5 {
-        return unread(Outcome::IllFormed);
+    let [client, a, b, c, d, subs @ ..] = value else {
+        return Err(SslError::IllFormed);
+    };
+    let mut pieces = [None; 5];
+    for tlv in TlvArea::new(subs)?.tlvs() {
+        let start = 5 + tlv.value.start;
+        let size = tlv.value.size;
+        note(&mut pieces, tlv.tlv_type, Part { start, size });
     }
-    let mut found = [0usize; 10];
-    let mut at: usize = 5;
-    while at < value.len() {
-        match head_at(value, at) {
-            Shown::Tlv {
-                tlv_type,
-                start,
-                length,
-            } => {
-                note(&mut found, tlv_type, start, length);
-                at = start + length;
-            }
-            Shown::End => return unread(Outcome::IllFormed),
-            Shown::Refused => return unread(Outcome::IllFormed),
-        }
+    let [version, common_name, cipher, signature, key] = pieces;
+    if lacks_version(*client, version.is_none()) {
+        return Err(SslError::NoVersion);
     }
-    let client = value[0];
-    let version = piece_at(found[0], found[1]);
-    if lacks_version(client, is_absent(version)) {
-        return unread(Outcome::NoVersion);
-    }
-    let common_name = piece_at(found[2], found[3]);
-    let cipher = piece_at(found[4], found[5]);
-    let signature = piece_at(found[6], found[7]);
-    let key = piece_at(found[8], found[9]);
-    Ssl {
-        outcome: Outcome::Accepted,
-        client,
-        verify: network_number(value[1], value[2], value[3], value[4]),
+    Ok(Ssl {
+        client: *client,
+        verify: network_number(*a, *b, *c, *d),
         version,
         common_name,
         cipher,
         signature,
         key,
-    }
+    })
 }
 
-// The bytes of a piece, as the very part of the value; of an absent one, the empty part at 0.
-pub fn piece_of(value: &[u8], piece: Piece) -> &[u8]
-    ensures { PartOf value.entry (told_part piece) result }
+/// The bytes of a piece, as the very part of the value; of an absent one, the empty part at 0.
+pub fn piece_of(value: &[u8], piece: Option<Part>) -> &[u8]
+    ensures { PartOf value.entry piece result }
 {
     match piece {
-        Piece::Absent => front(value, 0),
-        Piece::Part { start, length } => front(behind(value, start), length),
+        None => front(value, 0),
+        Some(part) => front(behind(value, part.start), part.size),
     }
 }

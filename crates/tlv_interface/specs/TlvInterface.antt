@@ -1,9 +1,8 @@
--- What the C functions that look into a TLV area answer and leave (document 01, "Looking into TLVs").
+-- What the C functions that look into a TLV area answer and leave.
 use Rattle.std.specs.Prelude.{◌≡◌, List, [], ◌∷◌, ℕ, leb, length}
 use Rattle.exact.specs.Pick.{pick}
 use Rattle.lookup.specs.Lookup.{Lookup, lookup_of}
 use Rattle.tlv_step.specs.Step.{Step, shown, end, refused, start_of, length_of, place_after}
-use Rattle.numbers.specs.declared.Told.{Told}
 use Rattle.lent.specs.Buffers.{told_in}
 use Rattle.numbers.specs.Numbers.{numbers_size, lookup_number}
 
@@ -35,8 +34,3 @@ step_numbers at step = place_after at step ∷ type_of step ∷ start_of step �
 pub record StepTold (at : ℕ) (step : Step) (numbers : List ℕ) (answer : ℕ) (after : List ℕ) : Type 0 where
   pub answers : answer ≡ pick (leb numbers_size (length numbers)) (step_number step) 14
   pub left : after ≡ told_in numbers_size (step_numbers at step) numbers
-
--- the same, as the code holds it
-abbrev pub step_told : ℕ → Step → Told
-step_told at step =
-    record { answer = step_number step; first = place_after at step; second = type_of step; start = start_of step; length = length_of step }

@@ -8,7 +8,7 @@ use Rattle.tlv_step.specs.declared.Tlvs.{Tlvs}
 -- TLVs of which the first stands at this place: a head of three bytes, and then the value
 abbrev pub placed : (at : ℕ) → List Spec.Tlv → List Tlv
 placed at [] = []
-placed at (t ∷ rest) = record { tlv_type = t.type; start = at + 3; length = length t.value } ∷ placed (at + 3 + length t.value) rest
+placed at (t ∷ rest) = record { tlv_type = t.type; value = record { start = at + 3; size = length t.value } } ∷ placed (at + 3 + length t.value) rest
 
 -- those that stand from a place on
 abbrev pub left_from : List ℕ → (at : ℕ) → List Tlv

@@ -15,7 +15,7 @@ pub data Step : Type 0 where
 
 -- the code's answer, by its number and values
 abbrev pub told_step : Result (Option Tlv) IllFormed → Step
-told_step (Ok (Some t)) = shown t.tlv_type t.start t.length
+told_step (Ok (Some t)) = shown t.tlv_type t.value.start t.value.size
 told_step (Ok None) = end
 told_step (Err e) = refused 12
 

@@ -13,12 +13,18 @@ use exact::number;
 #[derive(Clone, Copy)]
 pub struct IllFormed;
 
-/// A TLV of an area: its type, where its value starts in the area, and its length.
+/// A part of lent bytes: where it starts in them, and how many bytes it has.
+#[derive(Clone, Copy)]
+pub struct Part {
+    pub start: usize,
+    pub size: usize,
+}
+
+/// A TLV of an area: its type, and its value as a part of the area.
 #[derive(Clone, Copy)]
 pub struct Tlv {
     pub tlv_type: u8,
-    pub start: usize,
-    pub length: usize,
+    pub value: Part,
 }
 
 /// What stands at a place, a TLV or the end, with no look at what lies behind that TLV: for a caller who knows that what remains is well-formed.
@@ -33,14 +39,14 @@ pub fn head_at(area: &[u8], at: usize) -> Result<Option<Tlv>, IllFormed>
     match &area[at..] {
         [] => Ok(None),
         [tlv_type, high, low, value @ ..] => {
-            let length = number(*high, *low) as usize;
-            if value.len() < length {
+            let size = number(*high, *low) as usize;
+            if value.len() < size {
                 return Err(IllFormed);
             }
+            let start = at + 3;
             Ok(Some(Tlv {
                 tlv_type: *tlv_type,
-                start: at + 3,
-                length,
+                value: Part { start, size },
             }))
         }
         _ => Err(IllFormed),
@@ -57,11 +63,11 @@ pub fn step_at(area: &[u8], at: usize) -> Result<Option<Tlv>, IllFormed>
     head_at(area, at)
 }
 
-// Whether a TLV's value lies in the area.
-fn lies_in(tlv: Tlv, area: &[u8]) -> bool
-    ensures { result ≡ leb (tlv.start + tlv.length) (length area.now) }
+// Whether a part lies in the area.
+fn lies_in(part: Part, area: &[u8]) -> bool
+    ensures { result ≡ leb (part.start + part.size) (length area.now) }
 {
-    tlv.start <= area.len() && tlv.length <= area.len() - tlv.start
+    part.start <= area.len() && part.size <= area.len() - part.start
 }
 
 /// The value of what a step has shown, with no second look at what remains. Where that doesn't lie in the area, the empty part at 0.
@@ -69,7 +75,7 @@ pub fn value_of(area: &[u8], shown: Result<Option<Tlv>, IllFormed>) -> &[u8]
     ensures { ValuePart area.entry (within area.now (told_step shown)) result }
 {
     match shown {
-        Ok(Some(tlv)) if lies_in(tlv, area) => &area[tlv.start..tlv.start + tlv.length],
+        Ok(Some(Tlv { value, .. })) if lies_in(value, area) => &area[value.start..][..value.size],
         _ => &area[0..0],
     }
 }
@@ -79,7 +85,7 @@ pub fn place_of(area: &[u8], at: usize, shown: Result<Option<Tlv>, IllFormed>) -
     ensures { result ≡ place_after at (within area.now (told_step shown)) }
 {
     match shown {
-        Ok(Some(tlv)) if lies_in(tlv, area) => tlv.start + tlv.length,
+        Ok(Some(Tlv { value, .. })) if lies_in(value, area) => value.start + value.size,
         _ => at,
     }
 }
@@ -137,7 +143,7 @@ impl<'a> Iterator for Tlvs<'a> {
     fn next(&mut self) -> Option<Tlv> {
         match head_at(self.area, self.at) {
             Ok(Some(tlv)) => {
-                self.at = tlv.start + tlv.length;
+                self.at = tlv.value.start + tlv.value.size;
                 Some(tlv)
             }
             Ok(None) => None,

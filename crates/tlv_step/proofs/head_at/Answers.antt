@@ -7,5 +7,5 @@ use Rattle.tlv_step.proofs.head_at.Goals as goal
 pub returns-in-empty-clause-step : goal.returns-in-empty-clause-step
 returns-in-empty-clause-step c = λ w. from_head c.args.area.now c.args.at _ w (grind (arith, common_steps))
 
-pub returns-else-value-length-clause-step : goal.returns-else-value-length-clause-step
-returns-else-value-length-clause-step c = λ w. from_head c.args.area.now c.args.at _ w (grind (arith, common_steps))
+pub returns-else-value-size-clause-step : goal.returns-else-value-size-clause-step
+returns-else-value-size-clause-step c = λ w. from_head c.args.area.now c.args.at _ w (grind (arith, common_steps))

@@ -19,7 +19,7 @@ returns-in-Ok-Some-clause-goes c =
     let s = c.args.self.now in
     let t = c.in-Ok-Some.tlv in
     let e = rw c.in-Ok-Some.field-0-is at c.in-Ok-Some.ensures in
-    let shorter : length (left_from s.area.now s.at) ≡ length (t ∷ left_from s.area.now (t.start + t.length)) =
+    let shorter : length (left_from s.area.now s.at) ≡ length (t ∷ left_from s.area.now (t.value.start + t.value.size)) =
     ap length (left_first s.area.now s.at s.filled t e.head).1 in
     search rules
 
