@@ -3,71 +3,66 @@
 
 ghost use Rattle.std.specs.Prelude.{◌≡◌};
 ghost use Rattle.ssl_reader.specs.Ssl.{said_in};
-ghost use Rattle.ssl_reader.specs.Told.{told_part, part_start, part_size, told_outcome, told_ssl};
+ghost use Rattle.ssl_reader.specs.Told.{part_start, part_size, told_outcome, told_ssl};
 ghost use Rattle.ssl_writer.specs.Written.{pieces_of};
 ghost use Rattle.ssl_interface.specs.SslInterface.{outcome_number, said_numbers, SslTold, present_of, WritesSsl};
 
 use numbers::{put_all, room_beside, tell_written};
-use ssl_reader::{Outcome, Piece, Ssl, read_ssl};
+use ssl_reader::{Ssl, SslError, read_ssl};
 use ssl_writer::{Present, write_ssl};
+use tlv_step::Part;
 
 // How many numbers tell what a value says.
 const SSL_NUMBERS: usize = 12;
 
 // Where a piece starts; 0, if it is absent.
-fn piece_start(piece: Piece) -> usize
-    ensures { result ≡ part_start (told_part piece) }
+fn piece_start(piece: Option<Part>) -> u64
+    ensures { result ≡ part_start piece }
 {
     match piece {
-        Piece::Absent => 0,
-        Piece::Part { start, length: _ } => start,
+        Some(part) => part.start as u64,
+        None => 0,
     }
 }
 
 // How long a piece is; 0, if it is absent.
-fn piece_length(piece: Piece) -> usize
-    ensures { result ≡ part_size (told_part piece) }
+fn piece_length(piece: Option<Part>) -> u64
+    ensures { result ≡ part_size piece }
 {
     match piece {
-        Piece::Absent => 0,
-        Piece::Part { start: _, length } => length,
-    }
-}
-
-// The number of an outcome.
-fn outcome_number(outcome: Outcome) -> u32
-    ensures { result ≡ outcome_number (told_outcome outcome) }
-{
-    match outcome {
-        Outcome::Accepted => 0,
-        Outcome::IllFormed => 19,
-        Outcome::NoVersion => 20,
+        Some(part) => part.size as u64,
+        None => 0,
     }
 }
 
 // The numbers that tell what a value says.
-fn numbers_of(said: Ssl) -> [u64; 12]
-    ensures { result ≡ said_numbers (told_ssl said) }
+fn numbers_of(said: &Ssl) -> [u64; 12]
+    ensures { result ≡ said_numbers (told_ssl (Ok said.now)) }
 {
-    let version = said.version;
-    let common_name = said.common_name;
-    let cipher = said.cipher;
-    let signature = said.signature;
-    let key = said.key;
     [
         said.client as u64,
         said.verify as u64,
-        piece_start(version) as u64,
-        piece_length(version) as u64,
-        piece_start(common_name) as u64,
-        piece_length(common_name) as u64,
-        piece_start(cipher) as u64,
-        piece_length(cipher) as u64,
-        piece_start(signature) as u64,
-        piece_length(signature) as u64,
-        piece_start(key) as u64,
-        piece_length(key) as u64,
+        piece_start(said.version),
+        piece_length(said.version),
+        piece_start(said.common_name),
+        piece_length(said.common_name),
+        piece_start(said.cipher),
+        piece_length(said.cipher),
+        piece_start(said.signature),
+        piece_length(said.signature),
+        piece_start(said.key),
+        piece_length(said.key),
     ]
+}
+
+// The number of a refusal.
+fn error_number(error: SslError) -> u32
+    ensures { result ≡ outcome_number (told_outcome (Err error)) }
+{
+    match error {
+        SslError::IllFormed => 19,
+        SslError::NoVersion => 20,
+    }
 }
 
 // Reads a value. With room for 12 numbers they are told; else nothing is written.
@@ -77,11 +72,16 @@ pub fn read(value: &[u8], numbers: &mut [u64]) -> u32
     if numbers.len() < SSL_NUMBERS {
         return 14;
     }
-    let said = read_ssl(value);
-    let outcome = said.outcome;
-    let told = numbers_of(said);
-    put_all(&told, numbers);
-    outcome_number(outcome)
+    match read_ssl(value) {
+        Ok(said) => {
+            put_all(&numbers_of(&said), numbers);
+            0
+        }
+        Err(error) => {
+            put_all(&[0; SSL_NUMBERS], numbers);
+            error_number(error)
+        }
+    }
 }
 
 // Which pieces the bits say are there: bit i is piece 0x21 + i, and higher bits are ignored.

@@ -1,5 +1,5 @@
 -- Lemmas on what specs/Again.antt defines.
-use Rattle.std.specs.Prelude.{◌≡◌, refl, Bool, true, false, not, List, [], ◌∷◌, ℕ, zero, suc, ◌+◌, ◌^◌, ◌≤◌, ◌<◌, eqb, ltb, leb, length, take, drop, Option, Some, None}
+use Rattle.std.specs.Prelude.{◌≡◌, refl, Bool, true, false, not, List, [], ◌∷◌, ℕ, zero, suc, ◌+◌, ◌^◌, ◌≤◌, ◌<◌, eqb, ltb, leb, length, take, drop, Option, Some, None, Ok}
 use Rattle.std.proofs.Common.{sym, ap, ◌∙◌, subst, arith, eqb-true, ltb-true, ltb-false, leb-true, leb-false, lt-ltb, le-ltb, le-leb, ne_eqb, length-append, length-drop, length-take-le}
 use Rattle.std.proofs.lemmas.Bool.{eqb-false}
 use Rattle.std.specs.Borrow.{Bor}
@@ -13,7 +13,7 @@ use Rattle.tlv.proofs.Listed.{tlvs_of_lem}
 use Rattle.lookup.specs.Lookup.{index_of_first, start_of, length_of}
 use Rattle.ssl_reader.specs.Ssl.{Part, part_of, parts_from, parts_of, subs_of, is_absent, lacks_version, accepted, Said, said_in, client_of, verify_of, piece_in, pieces_in}
 use Rattle.ssl_reader.specs.declared.Ssl.{Ssl}
-use Rattle.ssl_reader.specs.Told.{told_part, told_ssl, PartOf}
+use Rattle.ssl_reader.specs.Told.{told_ssl, PartOf}
 use Rattle.ssl_reader.proofs.Laws.{Lies, part_lies, accepted_reads}
 use Rattle.ssl_reader.specs.Laws.{Reads}
 use Rattle.ssl_writer.specs.Written.{Piece, piece_if, pieces_of, subs_for, ssl_value}
@@ -186,17 +186,17 @@ given_again value part None is = refl
 given_again value part (Some p) is = ap Some is.2
 
 -- so what these hand to `write_ssl` is written as the value again
-pub calls_again : (value a b c d e : Bor (List ℕ)) (r : Ssl) → told_ssl r ≡ said_in value.now → PartOf value (told_part r.version) a
-    → PartOf value (told_part r.common_name) b → PartOf value (told_part r.cipher) c → PartOf value (told_part r.signature) d
-    → PartOf value (told_part r.key) e
+pub calls_again : (value a b c d e : Bor (List ℕ)) (r : Ssl) → told_ssl (Ok r) ≡ said_in value.now → PartOf value r.version a
+    → PartOf value r.common_name b → PartOf value r.cipher c → PartOf value r.signature d
+    → PartOf value r.key e
     → ssl_value r.client r.verify (pieces_of (present_in r) a.now b.now c.now d.now e.now) ≡ text_of value.now (said_in value.now)
 calls_again value a b c d e r told v n x s k =
     (λ i.
     ssl_value r.client r.verify
-    (given_again value a (told_part r.version) v i
-    ∷ given_again value b (told_part r.common_name) n i
-    ∷ given_again value c (told_part r.cipher) x i
-    ∷ given_again value d (told_part r.signature) s i
-    ∷ given_again value e (told_part r.key) k i
+    (given_again value a r.version v i
+    ∷ given_again value b r.common_name n i
+    ∷ given_again value c r.cipher x i
+    ∷ given_again value d r.signature s i
+    ∷ given_again value e r.key k i
     ∷ []))
     ∙ ap (text_of value.now) told

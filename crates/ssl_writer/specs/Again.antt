@@ -6,7 +6,6 @@ use Rattle.lookup.specs.Lookup.{index_of_first}
 use Rattle.answer.specs.Answers.{wrote}
 use Rattle.ssl_reader.specs.Ssl.{subs_of, is_absent, Said, pieces_in}
 use Rattle.ssl_reader.specs.declared.Ssl.{Ssl}
-use Rattle.ssl_reader.specs.Told.{told_part}
 use Rattle.ssl_writer.specs.declared.Present.{Present}
 use Rattle.ssl_writer.specs.Written.{ssl_value, ssl_answer}
 use Rattle.ssl_writer.specs.Writes.{ReadsAs}
@@ -35,9 +34,9 @@ pub record Again (value : List ℕ) (s : Said) : Type 0 where
 abbrev pub present_in : Ssl → Present
 present_in r =
     record {
-      version = not (is_absent (told_part r.version));
-      common_name = not (is_absent (told_part r.common_name));
-      cipher = not (is_absent (told_part r.cipher));
-      signature = not (is_absent (told_part r.signature));
-      key = not (is_absent (told_part r.key));
+      version = not (is_absent r.version);
+      common_name = not (is_absent r.common_name);
+      cipher = not (is_absent r.cipher);
+      signature = not (is_absent r.signature);
+      key = not (is_absent r.key);
     }
