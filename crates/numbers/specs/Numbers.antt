@@ -1,4 +1,4 @@
--- What each answer tells C callers in numbers (document 01, "Numbered answers").
+-- What each answer tells C callers in numbers.
 use Rattle.std.specs.Prelude.{List, [], ◌∷◌, ℕ, ◌-◌, leb}
 use Rattle.exact.specs.Pick.{pick}
 use Rattle.record.specs.declared.Kind.{Kind}
@@ -29,7 +29,7 @@ abbrev pub numbers_after : WriteAnswer → List ℕ → List ℕ
 numbers_after (wrote n) numbers = told_in numbers_size (n ∷ 0 ∷ 0 ∷ 0 ∷ []) numbers
 numbers_after (refuses k) numbers = numbers
 
--- 0 is accepted; else "15, 16, 17, 18", and 24 (document 02, K7)
+-- 0 is accepted; else "15, 16, 17, 18", and 24
 abbrev pub load_number : LoadAnswer → ℕ
 load_number (loads r) = 0
 load_number (no_record k) = k
@@ -41,6 +41,13 @@ lookup_number absent = 253
 lookup_number gave_up = 254
 lookup_number (no_area number) = number
 
+-- an answer that tells one number
+abbrev pub tells_one : (answer first : ℕ) → Told
+tells_one answer first = record { answer = answer; first = first; second = 0; start = 0; length = 0 }
+
+abbrev pub four_of : Told → List ℕ
+four_of t = t.first ∷ t.second ∷ t.start ∷ t.length ∷ []
+
 -- what is told of a verdict on size bytes, and the kind of its record
 abbrev pub told_of : Verdict → Kind → ℕ → Told
 told_of (Accepted n v) kind size =
@@ -51,5 +58,5 @@ told_of (Accepted n v) kind size =
       start = n - (area_end (Accepted n v) kind size - area_start (Accepted n v) kind size);
       length = area_end (Accepted n v) kind size - area_start (Accepted n v) kind size;
     }
-told_of (More n) kind size = record { answer = 255; first = n; second = 0; start = 0; length = 0 }
-told_of (Refused k p) kind size = record { answer = number_of k; first = p; second = 0; start = 0; length = 0 }
+told_of (More n) kind size = tells_one 255 n
+told_of (Refused k p) kind size = tells_one (number_of k) p

@@ -8,9 +8,9 @@ ghost use Rattle.answer.specs.Answers.{told_written};
 ghost use Rattle.stored_form.specs.Loading.{told_outcome};
 ghost use Rattle.stored_form.specs.Converting.{told_converted};
 ghost use Rattle.lookup.specs.Lookup.{told_finding};
-ghost use Rattle.numbers.specs.Numbers.{numbers_size, told_of, room_beside, written_number, numbers_after, load_number, lookup_number};
+ghost use Rattle.numbers.specs.Numbers.{numbers_size, tells_one, four_of, told_of, room_beside, written_number, numbers_after, load_number, lookup_number};
 
-use answer::{Fault, Verdict, fault_number};
+use answer::{Fault, Verdict, fault_number, refusal_number};
 use lookup::Answer;
 use record::Kind;
 use stored_form::{Converted, Outcome, flaw_number};
@@ -18,7 +18,7 @@ use stored_form::{Converted, Outcome, flaw_number};
 pub const NUMBERS: usize = 4;
 
 // What is told by numbers: the answer, and four numbers, of which the last two are a start and a length in the lent bytes.
-#[derive(Drop)]
+#[derive(Clone, Copy)]
 pub struct Told {
     pub answer: u32,
     pub first: u64,
@@ -27,30 +27,41 @@ pub struct Told {
     pub length: u64,
 }
 
-// Puts four numbers at the front of the output, where it has room for them; else it stays as it is.
+impl Told {
+    // An answer that tells one number.
+    pub fn one(answer: u32, first: u64) -> Told
+        ensures { result ≡ tells_one answer first }
+    {
+        Told {
+            answer,
+            first,
+            second: 0,
+            start: 0,
+            length: 0,
+        }
+    }
+
+    // Puts the four numbers at the front of the output, where it has room for them; else it stays as it is.
+    pub fn put(self, out: &mut [u64])
+        ensures { out.new ≡ told_in numbers_size (four_of self) out.old }
+    {
+        put_numbers(out, self.first, self.second, self.start, self.length);
+    }
+}
+
+// Puts four numbers at the front of the output, where it has room for them; else it stays as it is. It stays beside `put_all`: docs/TRACE.md names it.
 pub fn put_numbers(out: &mut [u64], first: u64, second: u64, start: u64, size: u64)
     ensures { out.new ≡ told_in numbers_size (first ∷ second ∷ start ∷ size ∷ []) out.old }
 {
-    if out.len() < NUMBERS {
-        return;
-    }
-    out[0] = first;
-    out[1] = second;
-    out[2] = start;
-    out[3] = size;
+    put_all(&[first, second, start, size], out);
 }
 
 // Puts numbers at the front of the output, where it has room for all of them; else it stays as it is.
 pub fn put_all(told: &[u64], out: &mut [u64])
     ensures { out.new ≡ told_in (length told.now) told.now out.old }
 {
-    if out.len() < told.len() {
-        return;
-    }
-    let mut i: usize = 0;
-    while i < told.len() {
-        out[i] = told[i];
-        i += 1;
+    if told.len() <= out.len() {
+        out[..told.len()].copy_from_slice(told);
     }
 }
 
@@ -68,20 +79,10 @@ pub fn tell(verdict: Verdict, kind: Kind, size: usize) -> Told
             start: (length - area) as u64,
             length: area as u64,
         },
-        Verdict::More { least } => Told {
-            answer: 255,
-            first: least as u64,
-            second: 0,
-            start: 0,
-            length: 0,
-        },
-        Verdict::Refused { refusal, place } => Told {
-            answer: answer::refusal_number(refusal) as u32,
-            first: place as u64,
-            second: 0,
-            start: 0,
-            length: 0,
-        },
+        Verdict::More { least } => Told::one(255, least as u64),
+        Verdict::Refused { refusal, place } => {
+            Told::one(refusal_number(refusal) as u32, place as u64)
+        }
     }
 }
 
@@ -115,7 +116,7 @@ pub fn tell_converted(converted: Converted, numbers: &mut [u64]) -> u32
     }
 }
 
-// The number of an outcome.
+// The number of an outcome. A function and no From, likewise.
 pub fn outcome_number(outcome: Outcome) -> u32
     ensures { (c : Record) → result ≡ load_number (told_outcome outcome c) }
 {
@@ -125,7 +126,7 @@ pub fn outcome_number(outcome: Outcome) -> u32
     }
 }
 
-// The number of a lookup's answer.
+// The number of a lookup's answer. A function and no From: the answer and the number are types of other crates.
 pub fn lookup_number(answer: Answer) -> u32
     ensures { result ≡ lookup_number (told_finding answer) }
 {

@@ -121,7 +121,8 @@ fn admit_stream(
     }
 }
 
-// What is said of a header by its version, its kind, its source, its bytes, and where its TLV area starts in them.
+// What is said of a header by its version, its kind, its source, its bytes, and where its TLV area starts in them. The version is a number: `by_version`
+// answers for each, and a type of two would ask more of callers.
 pub fn admit_header(
     table: &[u8],
     version: u8,

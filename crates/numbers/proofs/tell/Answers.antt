@@ -3,7 +3,7 @@ use Rattle.std.proofs.Common.{arith, sym, ap, ap₂, ◌∙◌, ℕ, ◌-◌}
 use Rattle.answer.specs.declared.Verdict.{Verdict}
 use Rattle.area.specs.Area.{area_start, area_end}
 use Rattle.numbers.specs.declared.Told.{Told}
-use Rattle.numbers.specs.Numbers.{told_of}
+use Rattle.numbers.specs.Numbers.{tells_one, told_of}
 use Rattle.numbers.proofs.NumberLaws.{end_within_header}
 use Rattle.numbers.proofs.tell.Goals as goal
 
@@ -29,10 +29,11 @@ returns-in-Accepted c =
 pub returns-in-More : goal.returns-in-More
 returns-in-More c =
     let x = c.args in
-    ap (λ (w : Verdict). told_of w x.kind x.size) (sym c.in-More.is)
+    c.one.ensures ∙ ap (λ (w : Verdict). told_of w x.kind x.size) (sym c.in-More.is)
 
 pub returns-in-Refused : goal.returns-in-Refused
 returns-in-Refused c =
     let x = c.args in
-    ap (λ (k : ℕ). record { answer = k; first = c.in-Refused.place; second = 0; start = 0; length = 0 }) c.refusal_number.ensures
+    c.one-in-Refused.ensures
+    ∙ ap (λ (k : ℕ). tells_one k c.in-Refused.place) c.refusal_number.ensures
     ∙ ap (λ (w : Verdict). told_of w x.kind x.size) (sym c.in-Refused.is)
