@@ -1,5 +1,6 @@
--- Whether what a kind does not use is zero and the checksum state may stand there, as tests (document 01, "The record"; document 02, K6; answer 11).
-use Rattle.std.specs.Prelude.{Bool, true, false, ◌&&◌, List, [], ◌∷◌, ℕ, eqb, drop}
+-- Whether what a kind does not use is zero and the checksum state may stand there, as tests (answer 11).
+use Rattle.std.specs.Prelude.{Bool, true, false, ◌&&◌, List, ℕ, eqb, drop}
+use Rattle.std.specs.List.{list_all}
 use Rattle.record.specs.declared.Kind.{Kind}
 use Rattle.record.specs.declared.Kind.TheVariants.{Local, Unspecified, Ip4, Ip6, Unix}
 use Rattle.record.specs.declared.Checksum.{Checksum}
@@ -9,8 +10,7 @@ use Rattle.record.specs.Kinds.{address_length}
 
 -- each byte is zero
 abbrev pub zeros : List ℕ → Bool
-zeros [] = true
-zeros (c ∷ s) = eqb c 0 && zeros s
+zeros = list_all (λ c. eqb c 0)
 
 -- "Address bytes that a kind does not use are zero"
 abbrev pub clean_address : Kind → List ℕ → Bool
@@ -28,7 +28,7 @@ abbrev pub is_absent : Checksum → Bool
 is_absent Absent = true
 is_absent Matched = false
 
--- matched "beside local or unspecified" is 11 "always" (document 02, K6)
+-- matched "beside local or unspecified" is 11 "always"
 abbrev pub clean_state : Kind → Checksum → Bool
 clean_state Local c = is_absent c
 clean_state Unspecified c = is_absent c
@@ -44,6 +44,6 @@ clean_test r =
     && clean_port r.kind r.destination_port
     && clean_state r.kind r.checksum
 
--- "Without it" (the request for a checksum) and "in version 1 … matched is 11" (document 02, K6; of stored forms K7 says more)
+-- without a request for a checksum, and in version 1, matched is 11; of stored forms stored_form says more
 abbrev pub plain_test : Record → Bool
 plain_test r = clean_test r && is_absent r.checksum

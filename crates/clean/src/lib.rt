@@ -1,24 +1,27 @@
 // Whether what a kind does not use is zero, and the checksum state may stand beside it. No public function has a `requires`.
 #![tactic(auto)]
 
-ghost use Rattle.std.specs.Prelude.{◌≡◌, true, drop};
+ghost use Rattle.std.specs.Prelude.{◌≡◌, true, ◌<◌, ◌≤◌, length};
 ghost use Rattle.record.specs.Records.{Clean, Plain};
-ghost use Rattle.clean.specs.Unused.{zeros, clean_port, is_absent, clean_state, clean_test, plain_test};
+ghost use Rattle.clean.specs.Unused.{zeros, clean_address, clean_port, is_absent, clean_state, clean_test, plain_test};
 
 use record::{Checksum, Kind, Record, address_length};
 
-// Whether the bytes from this place on are zero.
-fn zero_from(address: [u8; 108], at: usize) -> bool
-    ensures { result ≡ zeros (drop at address) }
+static ZEROS: [u8; 108] = [0; 108];
+
+// Whether the bytes are zero, of an address at most.
+fn is_zero(bytes: &[u8]) -> bool
+    requires { length bytes.now ≤ 108 }
+    ensures { result ≡ zeros bytes.now }
 {
-    let mut i = at;
-    while i < 108 {
-        if address[i] != 0 {
-            return false;
-        }
-        i += 1;
-    }
-    true
+    bytes == &ZEROS[..bytes.len()]
+}
+
+// Whether the address bytes that the kind does not use are zero.
+fn clean_address(kind: Kind, address: &[u8; 108]) -> bool
+    ensures { result ≡ clean_address kind address.now }
+{
+    is_zero(&address[address_length(kind)..])
 }
 
 // Whether the port is zero, or the kind has ports.
@@ -26,11 +29,8 @@ fn clean_port(kind: Kind, port: u16) -> bool
     ensures { result ≡ clean_port kind port }
 {
     match kind {
-        Kind::Local => port == 0,
-        Kind::Unspecified => port == 0,
-        Kind::Ip4(_) => true,
-        Kind::Ip6(_) => true,
-        Kind::Unix(_) => port == 0,
+        Kind::Ip4(_) | Kind::Ip6(_) => true,
+        Kind::Local | Kind::Unspecified | Kind::Unix(_) => port == 0,
     }
 }
 
@@ -38,10 +38,7 @@ fn clean_port(kind: Kind, port: u16) -> bool
 pub fn is_absent(checksum: Checksum) -> bool
     ensures { result ≡ is_absent checksum }
 {
-    match checksum {
-        Checksum::Absent => true,
-        Checksum::Matched => false,
-    }
+    matches!(checksum, Checksum::Absent)
 }
 
 // Whether the state is absent, or the kind has addresses.
@@ -49,46 +46,36 @@ pub fn clean_state(kind: Kind, checksum: Checksum) -> bool
     ensures { result ≡ clean_state kind checksum }
 {
     match kind {
-        Kind::Local => is_absent(checksum),
-        Kind::Unspecified => is_absent(checksum),
-        Kind::Ip4(_) => true,
-        Kind::Ip6(_) => true,
-        Kind::Unix(_) => true,
+        Kind::Local | Kind::Unspecified => is_absent(checksum),
+        Kind::Ip4(_) | Kind::Ip6(_) | Kind::Unix(_) => true,
     }
+}
+
+// Whether the record passes all of these tests; and of what sizes its parts are, which is known where they are read.
+fn passes(r: &Record) -> bool
+    ensures test { result ≡ clean_test r.now }
+    ensures sizes { (length r.now.source ≡ 108) × (length r.now.destination ≡ 108) }
+    ensures ports { (r.now.source_port < 65536) × (r.now.destination_port < 65536) }
+{
+    let source_port = clean_port(r.kind, r.source_port);
+    let destination_port = clean_port(r.kind, r.destination_port);
+    clean_address(r.kind, &r.source)
+        && clean_address(r.kind, &r.destination)
+        && source_port
+        && destination_port
+        && clean_state(r.kind, r.checksum)
 }
 
 // Whether the address bytes and ports that the record's kind does not use are zero, and its state may stand beside the kind.
-pub fn clean(r: Record) -> bool
-    ensures { (result ≡ clean_test r) × (result ≡ true → Clean r) × (Clean r → result ≡ true) }
+pub fn clean(r: &Record) -> bool
+    ensures { (result ≡ clean_test r.now) × (result ≡ true → Clean r.now) × (Clean r.now → result ≡ true) }
 {
-    let kind = r.kind;
-    let source = r.source;
-    let destination = r.destination;
-    let checksum = r.checksum;
-    let used = address_length(kind);
-    if zero_from(source, used) {
-        if zero_from(destination, used) {
-            if clean_port(kind, r.source_port) {
-                if clean_port(kind, r.destination_port) {
-                    clean_state(kind, checksum)
-                } else {
-                    false
-                }
-            } else {
-                false
-            }
-        } else {
-            false
-        }
-    } else {
-        false
-    }
+    passes(r)
 }
 
 // Whether the record is clean, and its state absent.
-pub fn plain(r: Record) -> bool
-    ensures { (result ≡ plain_test r) × (result ≡ true → Plain r) × (Plain r → result ≡ true) }
+pub fn plain(r: &Record) -> bool
+    ensures { (result ≡ plain_test r.now) × (result ≡ true → Plain r.now) × (Plain r.now → result ≡ true) }
 {
-    let checksum = r.checksum;
-    if clean(r) { is_absent(checksum) } else { false }
+    clean(r) && is_absent(r.checksum)
 }
