@@ -1,7 +1,10 @@
 -- How long the parts of an address block are, and that a record and its address block give each other.
 use Rattle.std.specs.Prelude.{◌≡◌, refl, List, [], ◌∷◌, ◌++◌, ℕ, suc, ◌+◌, ◌-◌, ◌/◌, ◌%◌, ◌≤◌, ◌<◌, length, take, drop, get_or, replicate}
-use Rattle.std.proofs.Common.{sym, ap, ap₂, ◌∙◌, append_assoc, append-nil, add-one, arith, length-append, length-drop, take-append-drop, length-take-le, take_at, drop_at, take-add, drop-cons, get_or-append-add}
+use Rattle.std.proofs.Common.{sym, ap, ap₂, ◌∙◌, length-take, take_all, append_assoc, append-nil, add-one, arith, length-append, length-drop, take-append-drop, length-take-le, take_at, drop_at, take-add, drop-cons, get_or-append-add}
 use Rattle.std.proofs.Math.Seq.{take-length}
+use Rattle.std.proofs.lemmas.List.{drop-replicate, length-replicate}
+use Rattle.lent.specs.Placed.{placed}
+use Rattle.lent.proofs.PlacedLaws.{placed_front}
 use Rattle.exact.specs.Claim.{AllBytes}
 use Rattle.exact.specs.Network.{network, number_at}
 use Rattle.exact.specs.Byte.{zeros}
@@ -51,6 +54,17 @@ number_small : (s : List ℕ) (i : ℕ) → AllBytes s → number_at s i < 65536
 number_small s i b = let h = byte_at s i b in let l = byte_at s (i + 1) b in omega arith
 
 -- ── an address as a record holds it ──
+pub put_held : (a : List ℕ) → length a ≤ 108 → placed a 0 (replicate 108 0) ≡ held a
+put_held a h = placed_front a (replicate 108 0) (omega (arith, length-replicate {A = ℕ} 108 0)) ∙ ap (λ (t : List ℕ). a ++ t) (drop-replicate (length a) 108 0)
+
+-- a kind's address is no longer than what is held
+pub address_part : (k : Kind) (s : List ℕ) {n : ℕ} {a h : List ℕ} → n ≡ address_length k → a ≡ take n s → h ≡ held (take 108 a) → h ≡ held (take (address_length k) s)
+address_part k s en ea eh =
+    let part = take (address_length k) s in
+    let few = address_fits k in
+    let short = length-take (address_length k) s in
+    eh ∙ ap (λ (a : List ℕ). held (take 108 a)) (ea ∙ ap (λ (m : ℕ). take m s) en) ∙ ap held (take_all 108 part (omega arith))
+
 module _ (k : Kind) (a : List ℕ) (size : length a ≡ address_length k) where
   held_front : take (address_length k) (held a) ≡ a
   held_front = take_at a (replicate (108 - length a) 0) (address_length k) size

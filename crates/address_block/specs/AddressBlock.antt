@@ -1,4 +1,4 @@
--- The address block of a record, and the record of an address block (document 01, "The binary block").
+-- The address block of a record, and the record of an address block.
 use Rattle.std.specs.Prelude.{List, ◌++◌, ℕ, ◌+◌, take, drop}
 use Rattle.exact.specs.Network.{network, number_at}
 use Rattle.record.specs.declared.Kind.{Kind}

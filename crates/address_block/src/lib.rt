@@ -1,29 +1,22 @@
-// The address block of a version 2 header (document 01, "The binary block"), and the record that it gives. No public function has a `requires`.
+// The address block of a version 2 header, and the record that it gives. No public function has a `requires`.
 #![tactic(auto)]
 
-ghost use Rattle.std.specs.Prelude.{◌≡◌, ◌+◌, ◌≤◌, take, get_or};
+ghost use Rattle.std.specs.Prelude.{◌≡◌, ◌+◌, ◌≤◌, take};
 ghost use Rattle.exact.specs.Network.{number_at};
 ghost use Rattle.record.specs.Kinds.{address_length, port_length};
 ghost use Rattle.record.specs.Records.{held as held_of, record_of};
 ghost use Rattle.address_block.specs.AddressBlock.{port_at, block_record};
 
-use exact::number;
-use lent::{behind, least};
-use record::{Checksum, Kind, Record, address_length, port_length, record_with};
+use lent::{behind, byte_at, front};
+use record::{Checksum, Kind, Record, address_length, port_length};
 
-// The first n bytes, or as many as there are, as a record holds an address.
-fn held(bytes: &[u8], n: usize) -> [u8; 108]
-    requires { n ≤ 108 }
-    ensures { result ≡ held_of (take n bytes.now) }
+// The first 108 bytes, or as many as there are, as a record holds an address: zeros stand behind them.
+pub fn held(bytes: &[u8]) -> [u8; 108]
+    ensures { result ≡ held_of (take 108 bytes.now) }
 {
-    let m = least(n, bytes.len());
-    let mut address = [0u8; 108];
-    let mut i: usize = 0;
-    while i < m {
-        address[i] = bytes[i];
-        i += 1;
-    }
-    address
+    let mut held = [0; 108];
+    lent::put(front(bytes, 108), &mut held, 0);
+    held
 }
 
 // The record of a kind with these ports, and the addresses that these bytes begin with.
@@ -37,29 +30,22 @@ pub fn record_from(
     ensures { result ≡ record_of kind (take (address_length kind) source.now) (take (address_length kind) destination.now) source_port destination_port }
 {
     let n = address_length(kind);
-    record_with(
+    Record {
         kind,
-        held(source, n),
-        held(destination, n),
+        source: held(front(source, n)),
+        destination: held(front(destination, n)),
         source_port,
         destination_port,
-        Checksum::Absent,
-    )
+        checksum: Checksum::Absent,
+    }
 }
 
-// The byte at this place, or zero behind the end.
-fn byte_at(block: &[u8], at: usize) -> u8
-    ensures { result ≡ get_or block.now at 0 }
-{
-    if at < block.len() { block[at] } else { 0 }
-}
-
-// Two bytes in network order.
+// The number of two bytes in network order; those that are missing count as zero.
 fn number_at(block: &[u8], at: usize) -> u16
     requires { at ≤ 256 }
     ensures { result ≡ number_at block.now at }
 {
-    number(byte_at(block, at), byte_at(block, at + 1))
+    u16::from_be_bytes([byte_at(block, at), byte_at(block, at + 1)])
 }
 
 // The port at this place; zero, where the kind has no ports.
@@ -68,40 +54,28 @@ fn port_at(kind: Kind, block: &[u8], at: usize) -> u16
     ensures { result ≡ port_at kind block.now at }
 {
     match kind {
-        Kind::Local => 0,
-        Kind::Unspecified => 0,
-        Kind::Ip4(_) => number_at(block, at),
-        Kind::Ip6(_) => number_at(block, at),
-        Kind::Unix(_) => 0,
+        Kind::Ip4(_) | Kind::Ip6(_) => number_at(block, at),
+        Kind::Local | Kind::Unspecified | Kind::Unix(_) => 0,
     }
 }
 
-// The source port of an address block; zero, where the kind has no ports.
-pub fn source_port_of(kind: Kind, block: &[u8]) -> u16
-    ensures { result ≡ port_at kind block.now (address_length kind + address_length kind) }
+// The source and the destination port of an address block; zero, where the kind has no ports.
+pub fn ports_of(kind: Kind, block: &[u8]) -> (u16, u16)
+    ensures source { result.0 ≡ port_at kind block.now (address_length kind + address_length kind) }
+    ensures destination { result.1 ≡ port_at kind block.now (address_length kind + address_length kind + port_length kind) }
 {
-    let n = address_length(kind);
-    port_at(kind, block, n + n)
-}
-
-// The destination port of an address block; zero, where the kind has no ports.
-pub fn destination_port_of(kind: Kind, block: &[u8]) -> u16
-    ensures { result ≡ port_at kind block.now (address_length kind + address_length kind + port_length kind) }
-{
-    let n = address_length(kind);
-    port_at(kind, block, n + n + port_length(kind))
+    let at = 2 * address_length(kind);
+    (
+        port_at(kind, block, at),
+        port_at(kind, block, at + port_length(kind)),
+    )
 }
 
 // The record that an address block of this kind gives; bytes that are missing count as zero.
 pub fn addresses_of(kind: Kind, block: &[u8]) -> Record
     ensures { result ≡ block_record kind block.now }
 {
-    let n = address_length(kind);
-    record_from(
-        kind,
-        block,
-        behind(block, n),
-        source_port_of(kind, block),
-        destination_port_of(kind, block),
-    )
+    let (source_port, destination_port) = ports_of(kind, block);
+    let rest = behind(block, address_length(kind));
+    record_from(kind, block, rest, source_port, destination_port)
 }

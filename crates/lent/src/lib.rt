@@ -1,7 +1,7 @@
 // Lent bytes: parts of them, cut at their end, whether two are the same, and bytes put into them. No public function has a `requires`.
 #![tactic(auto)]
 
-ghost use Rattle.std.specs.Prelude.{◌≡◌, ◌+◌, min, length, take, drop};
+ghost use Rattle.std.specs.Prelude.{◌≡◌, ◌+◌, min, length, take, drop, get_or};
 ghost use Rattle.lent.specs.Placed.{placed};
 ghost use Rattle.lent.specs.Same.{same};
 
@@ -29,6 +29,13 @@ pub fn behind(bytes: &[u8], at: usize) -> &[u8]
 {
     let start = at.min(bytes.len());
     &bytes[start..]
+}
+
+// The byte at this place; 0 behind the end.
+pub fn byte_at(bytes: &[u8], at: usize) -> u8
+    ensures { result ≡ get_or bytes.now at 0 }
+{
+    bytes.get(at).copied().unwrap_or(0)
 }
 
 // Whether the bytes are the same.
