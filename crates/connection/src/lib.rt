@@ -3,92 +3,103 @@
 // No public function has a `requires`.
 #![tactic(auto)]
 
-ghost use Rattle.std.specs.Prelude.{◌≡◌, ◌+◌, ◌≤◌, length};
-ghost use Rattle.record.specs.Records.{held, record_of, with_checksum};
-ghost use Rattle.lent.specs.Placed.{placed};
-ghost use Rattle.answer.specs.Sight.{record_by};
-ghost use Rattle.lent.specs.Buffers.{over, told_in};
+ghost use Rattle.std.specs.Prelude.{◌≡◌, ◌≤◌, length, drop};
+ghost use Rattle.record.specs.Records.{record_of, with_checksum};
+ghost use Rattle.address_block.specs.AddressBlock.{block_record};
+ghost use Rattle.answer.specs.Sight.{caller_record, record_by};
+ghost use Rattle.answer.specs.Headers.{header_of};
+ghost use Rattle.lent.specs.Buffers.{told_in};
 ghost use Rattle.connection.specs.Connection.{connection_size, connection_bytes};
 
-use address_block::{destination_port_of, source_port_of};
-use answer::{Seen, in_bytes};
+use address_block::{held, ports_of};
+use answer::{Caller, Seen, Sight, in_bytes};
 use kind_code::{code_of, state_byte};
-use lent::{behind, front};
+use lent::{behind, front, put};
 use record::{Checksum, Kind, Record, address_length};
 
 // 1 + 108 + 108 + 2 + 2 + 1.
 pub const CONNECTION: usize = 222;
 
-// Puts an address, and zeros behind it up to 108 bytes, at this place of the output.
-fn put_address(address: &[u8], out: &mut [u8], at: usize)
-    requires { (length address.now ≤ 108) × (at + 108 ≤ length out.old) }
-    ensures { out.new ≡ placed (held address.now) at out.old }
-{
-    let zeros = [0u8; 108];
-    lent::put(&zeros, out, at);
-    lent::put(address, out, at);
-}
-
-// Puts a connection's parts at the front of the output.
-fn put_connection(
+// A record whose addresses are lent, by the bytes read, by a caller or by a record: they are copied into the output only.
+#[derive(Clone, Copy)]
+struct Lent<'a> {
     kind: Kind,
-    source: &[u8],
-    destination: &[u8],
+    source: &'a [u8],
+    destination: &'a [u8],
     source_port: u16,
     destination_port: u16,
     checksum: Checksum,
-    out: &mut [u8],
-)
-    requires { (length source.now ≤ 108) × (length destination.now ≤ 108) × (connection_size ≤ length out.old) }
-    ensures { out.new ≡ over (connection_bytes (with_checksum checksum (record_of kind source.now destination.now source_port destination_port))) out.old }
-{
-    let code = [code_of(kind)];
-    let rest = [
-        (source_port / 256) as u8,
-        (source_port % 256) as u8,
-        (destination_port / 256) as u8,
-        (destination_port % 256) as u8,
-        state_byte(checksum),
-    ];
-    lent::put(&code, out, 0);
-    put_address(source, out, 1);
-    put_address(destination, out, 109);
-    lent::put(&rest, out, 217);
 }
 
-// Puts the connection that is seen in the bytes, where the output has room for it; else it stays as it is. The addresses are lent by the
-// bytes or by the caller, and copied once.
-pub fn put_seen(bytes: &[u8], seen: Seen, out: &mut [u8])
-    ensures { out.new ≡ told_in connection_size (connection_bytes (record_by seen.verdict bytes.now seen.caller)) out.old }
+// Puts the record's connection, where the output has room for it; else it stays as it is.
+fn put_connection(from: Lent, out: &mut [u8])
+    requires { (length from.source.now ≤ 108) × (length from.destination.now ≤ 108) }
+    ensures { out.new ≡ told_in connection_size (connection_bytes (with_checksum from.entry.checksum
+        (record_of from.entry.kind from.entry.source.now from.entry.destination.now from.entry.source_port from.entry.destination_port))) out.old }
 {
     if out.len() < CONNECTION {
         return;
     }
-    let verdict = seen.verdict;
-    let caller = seen.caller;
-    let kind = caller.kind;
-    let source = caller.source;
-    let destination = caller.destination;
+    put(&[code_of(from.kind)], out, 0);
+    put(&held(from.source), out, 1);
+    put(&held(from.destination), out, 109);
+    put(&from.source_port.to_be_bytes(), out, 217);
+    put(&from.destination_port.to_be_bytes(), out, 219);
+    put(&[state_byte(from.checksum)], out, 221);
+}
+
+// The same of a caller's record.
+fn put_caller(caller: &Caller, out: &mut [u8])
+    ensures { out.new ≡ told_in connection_size (connection_bytes (caller_record caller.now)) out.old }
+{
+    let n = address_length(caller.kind);
+    let from = Lent {
+        kind: caller.kind,
+        source: front(&caller.source, n),
+        destination: front(&caller.destination, n),
+        source_port: caller.source_port,
+        destination_port: caller.destination_port,
+        checksum: Checksum::Absent,
+    };
+    put_connection(from, out);
+}
+
+// The same of a version 2 header's record: its address block begins at 16.
+fn put_block(kind: Kind, bytes: &[u8], out: &mut [u8])
+    ensures { out.new ≡ told_in connection_size (connection_bytes (block_record kind (drop 16 bytes.now))) out.old }
+{
     let n = address_length(kind);
-    if in_bytes(verdict) {
-        let block = behind(bytes, 16);
-        let p = source_port_of(kind, block);
-        let q = destination_port_of(kind, block);
-        let from = front(block, n);
-        let to = front(behind(block, n), n);
-        put_connection(kind, from, to, p, q, Checksum::Absent, out);
+    let block = behind(bytes, 16);
+    let (source_port, destination_port) = ports_of(kind, block);
+    let from = Lent {
+        kind,
+        source: front(block, n),
+        destination: front(behind(block, n), n),
+        source_port,
+        destination_port,
+        checksum: Checksum::Absent,
+    };
+    put_connection(from, out);
+}
+
+// Puts the connection that is seen in the bytes, where the output has room for it; else it stays as it is.
+pub fn put_sight(bytes: &[u8], sight: &Sight, out: &mut [u8])
+    ensures { out.new ≡ told_in connection_size (connection_bytes (header_of bytes.now sight.now).«record») out.old }
+{
+    match sight {
+        Sight::Line(line) => put_caller(&line.value, out),
+        Sight::Block(block) => put_block(block.value, bytes, out),
+    }
+}
+
+// Puts the connection that is seen in the bytes, where the output has room for it; else it stays as it is.
+pub fn put_seen(bytes: &[u8], seen: Seen, out: &mut [u8])
+    ensures { out.new ≡ told_in connection_size (connection_bytes (record_by seen.verdict bytes.now seen.caller)) out.old }
+{
+    if in_bytes(seen.verdict) {
+        put_block(seen.caller.kind, bytes, out);
     } else {
-        let from = front(&source, n);
-        let to = front(&destination, n);
-        put_connection(
-            kind,
-            from,
-            to,
-            caller.source_port,
-            caller.destination_port,
-            Checksum::Absent,
-            out,
-        );
+        put_caller(&seen.caller, out);
     }
 }
 
@@ -96,20 +107,13 @@ pub fn put_seen(bytes: &[u8], seen: Seen, out: &mut [u8])
 pub fn put_record(record: Record, out: &mut [u8])
     ensures { out.new ≡ told_in connection_size (connection_bytes «record») out.old }
 {
-    if out.len() < CONNECTION {
-        return;
-    }
-    let kind = record.kind;
-    let source = record.source;
-    let destination = record.destination;
-    let checksum = record.checksum;
-    put_connection(
-        kind,
-        &source,
-        &destination,
-        record.source_port,
-        record.destination_port,
-        checksum,
-        out,
-    );
+    let from = Lent {
+        kind: record.kind,
+        source: &record.source,
+        destination: &record.destination,
+        source_port: record.source_port,
+        destination_port: record.destination_port,
+        checksum: record.checksum,
+    };
+    put_connection(from, out);
 }

@@ -1,4 +1,4 @@
--- The sixteen bytes before a block (document 01, "The binary block").
+-- The sixteen bytes before a block.
 use Rattle.std.specs.Prelude.{List, ◌∷◌, ◌++◌, ℕ}
 use Rattle.exact.specs.Network.{network}
 use Rattle.record.specs.declared.Kind.{Kind}

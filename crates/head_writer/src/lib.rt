@@ -1,4 +1,4 @@
-// The sixteen bytes before a block, put into an output (document 01, "The binary block"). No public function has a `requires`.
+// The sixteen bytes before a block, put into an output. No public function has a `requires`.
 #![tactic(auto)]
 
 ghost use Rattle.std.specs.Prelude.{◌≡◌};
@@ -14,10 +14,7 @@ fn command(kind: Kind) -> u8
 {
     match kind {
         Kind::Local => 0x20,
-        Kind::Unspecified => 0x21,
-        Kind::Ip4(_) => 0x21,
-        Kind::Ip6(_) => 0x21,
-        Kind::Unix(_) => 0x21,
+        Kind::Unspecified | Kind::Ip4(_) | Kind::Ip6(_) | Kind::Unix(_) => 0x21,
     }
 }
 
@@ -25,6 +22,7 @@ fn command(kind: Kind) -> u8
 pub fn put_head(kind: Kind, size: u16, out: &mut [u8])
     ensures { out.new ≡ placed (head_of kind size) 0 out.old }
 {
+    let [high, low] = size.to_be_bytes();
     let head = [
         0x0D,
         0x0A,
@@ -40,8 +38,8 @@ pub fn put_head(kind: Kind, size: u16, out: &mut [u8])
         0x0A,
         command(kind),
         kind_byte(kind),
-        (size / 256) as u8,
-        (size % 256) as u8,
+        high,
+        low,
     ];
     put(&head, out, 0);
 }

@@ -1,4 +1,4 @@
 pub mod BufferLaws
-pub mod PartLaws
+pub mod NetworkLaws
 pub mod PlacedLaws
 pub mod Same

@@ -1,50 +1,16 @@
 -- `put_addresses` puts the four parts of the address block one behind the other, and each `put` ensures its part.
-use Rattle.std.proofs.Common.{ℕ, ◌+◌, ◌≤◌, ◌≡◌, sym, List, ◌++◌, arith, length, take, length-append, length-take-le}
+use Rattle.std.proofs.Common.{ℕ, ◌+◌, ◌≤◌, ◌≡◌, sym, ap, ◌∙◌, rules, List, ◌++◌, arith, length, take, length-append}
 use Rattle.exact.specs.Network.{network}
 use Rattle.record.specs.declared.Record.{Record}
 use Rattle.record.specs.declared.Kind.{Kind}
-use Rattle.record.specs.Records.{Sized}
-use Rattle.record.proofs.InMemory.{in_memory}
 use Rattle.record.specs.Kinds.{address_length, port_length, block_length}
 use Rattle.address_block.specs.AddressBlock.{address_block}
-use Rattle.address_block.proofs.AddressBlockLaws.{address_fits, address_size, port_size, block_size}
+use Rattle.address_block.proofs.AddressBlockLaws.{address_size, port_size, block_size}
 use Rattle.lent.specs.Placed.{placed}
 use Rattle.lent.proofs.PlacedLaws.{placed_else, placed_then}
-use Rattle.address_block_writer.proofs.put_addresses.Goals.{After-address_length-n, After-block_length, After-port_length-m, After-put, After-put-then-block_length-out, After-put_port, After-put_port-then-block_length-out, After-slice_known-then-block_length-out-1, Then-block_length-out}
 use Rattle.address_block_writer.proofs.put_addresses.Goals as goal
 
--- the lengths of what is put
-module _ (c : After-address_length-n) where
-  abbrev connection : Record
-  connection = c.args.r
-
-  sized : Sized connection
-  sized = in_memory connection _ c.well_formed.0
-
-  used : c.address_length-n.result ≤ 108
-  used = rw c.address_length-n.ensures (address_fits connection.kind)
-
-pub slice_bounds-source-end : goal.slice_bounds-source-end
-slice_bounds-source-end c =
-    let d = (goal.at.slice_bounds-source-end c).After-address_length-n in
-    let h = used d in
-    let l = (sized d).source in
-    omega arith
-
-pub slice_bounds-put-end : goal.slice_bounds-put-end
-slice_bounds-put-end c = sym (length-take-le _ _ (slice_bounds-source-end (goal.at.slice_bounds-put-end c).Then-block_length-out))
-
-pub slice_bounds-destination-end : goal.slice_bounds-destination-end
-slice_bounds-destination-end c =
-    let d = (goal.at.slice_bounds-destination-end c).After-address_length-n in
-    let h = used d in
-    let l = (sized d).destination in
-    omega arith
-
-pub slice_bounds-put-end-then-block_length-out : goal.slice_bounds-put-end-then-block_length-out
-slice_bounds-put-end-then-block_length-out c = sym (length-take-le _ _ (slice_bounds-destination-end (goal.at.slice_bounds-put-end-then-block_length-out c).After-slice_known-then-block_length-out-1))
-
-module _ (r : Record) (sized : Sized r) (at n m : ℕ) (address : n ≡ address_length r.kind) (port : m ≡ port_length r.kind) where
+module _ (r : Record) (source : length r.source ≡ 108) (destination : length r.destination ≡ 108) (at n m : ℕ) (address : n ≡ address_length r.kind) (port : m ≡ port_length r.kind) where
   abbrev k : Kind
   k = r.kind
 
@@ -59,8 +25,8 @@ module _ (r : Record) (sized : Sized r) (at n m : ℕ) (address : n ≡ address_
       let b = take (address_length k) r.destination in
       let p = take (port_length k) (network r.source_port) in
       let q = take (port_length k) (network r.destination_port) in
-      let a-size = address_size k r.source sized.source in
-      let b-size = address_size k r.destination sized.destination in
+      let a-size = address_size k r.source source in
+      let b-size = address_size k r.destination destination in
       let p-size = port_size k r.source_port in
       let q-size = port_size k r.destination_port in
       let ab-size = length-append a b in
@@ -71,32 +37,23 @@ module _ (r : Record) (sized : Sized r) (at n m : ℕ) (address : n ≡ address_
       let two = placed_then (a ++ b) p d d₂ d₃ at (at + n + n) one e₃ (omega arith) (omega arith) in
       placed_then (a ++ b ++ p) q d d₃ d₄ at (at + n + n + m) two e₄ (omega arith) (omega arith)
 
-pub returns-then-block_length-out : goal.returns-then-block_length-out
-returns-then-block_length-out c =
-    let c₄ = (goal.at.returns-then-block_length-out c).After-put_port-then-block_length-out in
-    let c₃ = (goal.at.After-put_port-then-block_length-out c₄).After-put_port in
-    let c₂ = (goal.at.After-put_port c₃).After-put-then-block_length-out in
-    let c₁ = (goal.at.After-put-then-block_length-out c₂).After-put in
-    let asked = (goal.at.After-put c₁).After-block_length in
-    let ports = (goal.at.After-block_length asked).After-port_length-m in
-    let d = (goal.at.After-port_length-m ports).After-address_length-n in
-    let x = d.args in
-    let n = asked.block_length.ensures in
-    let room = c₁.if-block_length-out.true in
-    let place = asked.if-at-out.true in
-    let fits : x.at + block_length x.r.kind ≤ length x.out.now = omega arith in
-    whole x.r (sized d) x.at d.address_length-n.result ports.port_length-m.result d.address_length-n.ensures ports.port_length-m.ensures
-    x.out.now _ _ _ _ fits c₁.put.ensures c₂.put-then-block_length-out.ensures c₃.put_port.ensures c₄.put_port-then-block_length-out.ensures
-
-pub returns-else-block_length-out : goal.returns-else-block_length-out
-returns-else-block_length-out c =
-    let d = (goal.at.returns-else-block_length-out c).After-address_length-n in
-    let x = d.args in
-    let size = block_size x.r (sized d).source (sized d).destination in
-    let n = c.block_length.ensures in
-    sym (placed_else (address_block x.r) x.at x.out.now (omega arith))
-
-pub returns-else-at-out : goal.returns-else-at-out
-returns-else-at-out c =
+pub returns : goal.returns
+returns c =
     let x = c.args in
-    sym (placed_else (address_block x.r) x.at x.out.now (omega arith))
+    let n = c.block_length.ensures in
+    let room : x.at + block_length x.r.now.kind ≤ length x.out.now = let a = c.if-out-at.false in let b = c.if-out-at-2.false in omega arith in
+    whole x.r.now (search rules) (search rules) x.at c.address_length-n.result c.port_length-m.result c.address_length-n.ensures c.port_length-m.ensures x.out.now
+    c.put.new.out c.put-2.new.out c.put_port.new.out c.put_port-2.new.out room
+    (c.put.ensures ∙ ap (λ (l : List ℕ). placed l x.at x.out.now) c.front.ensures.2)
+    (c.put-2.ensures ∙ ap (λ (l : List ℕ). placed l (x.at + c.address_length-n.result) c.put.new.out) c.front-2.ensures.2)
+    c.put_port.ensures c.put_port-2.ensures
+
+pub returns-then-out-at : goal.returns-then-out-at
+returns-then-out-at c = let x = c.args in sym (placed_else (address_block x.r.now) x.at x.out.now (omega arith))
+
+pub returns-then-out-at-2 : goal.returns-then-out-at-2
+returns-then-out-at-2 c =
+    let x = c.args in
+    let size = block_size x.r.now (search rules) (search rules) in
+    let n = c.block_length.ensures in
+    sym (placed_else (address_block x.r.now) x.at x.out.now (omega arith))
