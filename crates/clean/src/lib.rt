@@ -1,7 +1,7 @@
 // Whether what a kind does not use is zero, and the checksum state may stand beside it. No public function has a `requires`.
 #![tactic(auto)]
 
-ghost use Rattle.std.specs.Prelude.{◌≡◌, true, ◌<◌, ◌≤◌, length};
+ghost use Rattle.std.specs.Prelude.{◌≡◌, true, ◌≤◌, length};
 ghost use Rattle.record.specs.Records.{Clean, Plain};
 ghost use Rattle.clean.specs.Unused.{zeros, clean_address, clean_port, is_absent, clean_state, clean_test, plain_test};
 
@@ -51,31 +51,27 @@ pub fn clean_state(kind: Kind, checksum: Checksum) -> bool
     }
 }
 
-// Whether the record passes all of these tests; and of what sizes its parts are, which is known where they are read.
+// Whether the record passes all of these tests.
 fn passes(r: &Record) -> bool
-    ensures test { result ≡ clean_test r.now }
-    ensures sizes { (length r.now.source ≡ 108) × (length r.now.destination ≡ 108) }
-    ensures ports { (r.now.source_port < 65536) × (r.now.destination_port < 65536) }
+    ensures { result ≡ clean_test r.now }
 {
-    let source_port = clean_port(r.kind, r.source_port);
-    let destination_port = clean_port(r.kind, r.destination_port);
     clean_address(r.kind, &r.source)
         && clean_address(r.kind, &r.destination)
-        && source_port
-        && destination_port
+        && clean_port(r.kind, r.source_port)
+        && clean_port(r.kind, r.destination_port)
         && clean_state(r.kind, r.checksum)
 }
 
 // Whether the address bytes and ports that the record's kind does not use are zero, and its state may stand beside the kind.
-pub fn clean(r: &Record) -> bool
-    ensures { (result ≡ clean_test r.now) × (result ≡ true → Clean r.now) × (Clean r.now → result ≡ true) }
+pub fn clean(r: Record) -> bool
+    ensures { (result ≡ clean_test r) × (result ≡ true → Clean r) × (Clean r → result ≡ true) }
 {
-    passes(r)
+    passes(&r)
 }
 
 // Whether the record is clean, and its state absent.
-pub fn plain(r: &Record) -> bool
-    ensures { (result ≡ plain_test r.now) × (result ≡ true → Plain r.now) × (Plain r.now → result ≡ true) }
+pub fn plain(r: Record) -> bool
+    ensures { (result ≡ plain_test r) × (result ≡ true → Plain r) × (Plain r → result ≡ true) }
 {
     clean(r) && is_absent(r.checksum)
 }
