@@ -14,18 +14,12 @@ pub fn code_of(kind: Kind) -> u8
     match kind {
         Kind::Local => 0x00,
         Kind::Unspecified => 0x01,
-        Kind::Ip4(t) => match t {
-            Transport::Stream => 0x11,
-            Transport::Datagram => 0x12,
-        },
-        Kind::Ip6(t) => match t {
-            Transport::Stream => 0x21,
-            Transport::Datagram => 0x22,
-        },
-        Kind::Unix(t) => match t {
-            Transport::Stream => 0x31,
-            Transport::Datagram => 0x32,
-        },
+        Kind::Ip4(Transport::Stream) => 0x11,
+        Kind::Ip4(Transport::Datagram) => 0x12,
+        Kind::Ip6(Transport::Stream) => 0x21,
+        Kind::Ip6(Transport::Datagram) => 0x22,
+        Kind::Unix(Transport::Stream) => 0x31,
+        Kind::Unix(Transport::Datagram) => 0x32,
     }
 }
 

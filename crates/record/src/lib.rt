@@ -1,9 +1,8 @@
-// The record: a kind, two addresses, two ports (document 01, "The record") and a checksum state (document 02, K6).
-// No public function has a `requires`.
+// The record: what a header says of a caller, a kind, two addresses and two ports, and the state of its checksum. No public function has a `requires`.
 #![tactic(auto)]
 
 ghost use Rattle.std.specs.Prelude.{◌≡◌};
-ghost use Rattle.record.specs.Records.{record_with, with_checksum, bare};
+ghost use Rattle.record.specs.Records.{with_checksum, bare};
 ghost use Rattle.record.specs.Kinds.{family, byte_of, address_length, port_length, block_length};
 
 // How a connection carries its bytes.
@@ -13,7 +12,7 @@ pub enum Transport {
     Datagram,
 }
 
-// "The kind is local, unspecified, IPv4, IPv6 or UNIX, and the last three carry their transport."
+// Which family of addresses a record has, if any; a family carries its transport.
 #[derive(Clone, Copy)]
 pub enum Kind {
     Local,
@@ -23,7 +22,7 @@ pub enum Kind {
     Unix(Transport),
 }
 
-// "The record gains a checksum state: absent, or matched."
+// What a record says of its header's checksum: that there is none, or none was looked for; or that it is right.
 #[derive(Clone, Copy)]
 pub enum Checksum {
     Absent,
@@ -41,49 +40,25 @@ pub struct Record {
     pub checksum: Checksum,
 }
 
-// The record of these parts.
-pub fn record_with(
-    kind: Kind,
-    source: [u8; 108],
-    destination: [u8; 108],
-    source_port: u16,
-    destination_port: u16,
-    checksum: Checksum,
-) -> Record
-    ensures { result ≡ record_with kind source destination source_port destination_port checksum }
-{
-    Record {
-        kind,
-        source,
-        destination,
-        source_port,
-        destination_port,
-        checksum,
-    }
-}
-
 // The record with this state.
-pub fn with_checksum(record: Record, checksum: Checksum) -> Record
-    ensures { result ≡ with_checksum checksum «record» }
+pub fn with_checksum(from: Record, checksum: Checksum) -> Record
+    ensures { result ≡ with_checksum checksum from }
 {
-    let kind = record.kind;
-    let from = record.source;
-    let to = record.destination;
-    record_with(
-        kind,
-        from,
-        to,
-        record.source_port,
-        record.destination_port,
-        checksum,
-    )
+    Record { checksum, ..from }
 }
 
 // The record that says nothing of a caller, of this kind.
 pub fn blank(kind: Kind) -> Record
     ensures { result ≡ bare kind }
 {
-    record_with(kind, [0; 108], [0; 108], 0, 0, Checksum::Absent)
+    Record {
+        kind,
+        source: [0; 108],
+        destination: [0; 108],
+        source_port: 0,
+        destination_port: 0,
+        checksum: Checksum::Absent,
+    }
 }
 
 // The kind of byte 13 under PROXY.
@@ -107,20 +82,13 @@ pub fn kind_byte(kind: Kind) -> u8
     ensures { result ≡ byte_of kind }
 {
     match kind {
-        Kind::Local => 0x00,
-        Kind::Unspecified => 0x00,
-        Kind::Ip4(t) => match t {
-            Transport::Stream => 0x11,
-            Transport::Datagram => 0x12,
-        },
-        Kind::Ip6(t) => match t {
-            Transport::Stream => 0x21,
-            Transport::Datagram => 0x22,
-        },
-        Kind::Unix(t) => match t {
-            Transport::Stream => 0x31,
-            Transport::Datagram => 0x32,
-        },
+        Kind::Local | Kind::Unspecified => 0x00,
+        Kind::Ip4(Transport::Stream) => 0x11,
+        Kind::Ip4(Transport::Datagram) => 0x12,
+        Kind::Ip6(Transport::Stream) => 0x21,
+        Kind::Ip6(Transport::Datagram) => 0x22,
+        Kind::Unix(Transport::Stream) => 0x31,
+        Kind::Unix(Transport::Datagram) => 0x32,
     }
 }
 
@@ -129,8 +97,7 @@ pub fn address_length(kind: Kind) -> usize
     ensures { result ≡ address_length kind }
 {
     match kind {
-        Kind::Local => 0,
-        Kind::Unspecified => 0,
+        Kind::Local | Kind::Unspecified => 0,
         Kind::Ip4(_) => 4,
         Kind::Ip6(_) => 16,
         Kind::Unix(_) => 108,
@@ -142,11 +109,8 @@ pub fn port_length(kind: Kind) -> usize
     ensures { result ≡ port_length kind }
 {
     match kind {
-        Kind::Local => 0,
-        Kind::Unspecified => 0,
-        Kind::Ip4(_) => 2,
-        Kind::Ip6(_) => 2,
-        Kind::Unix(_) => 0,
+        Kind::Ip4(_) | Kind::Ip6(_) => 2,
+        Kind::Local | Kind::Unspecified | Kind::Unix(_) => 0,
     }
 }
 
@@ -155,8 +119,7 @@ pub fn block_length(kind: Kind) -> usize
     ensures { result ≡ block_length kind }
 {
     match kind {
-        Kind::Local => 0,
-        Kind::Unspecified => 0,
+        Kind::Local | Kind::Unspecified => 0,
         Kind::Ip4(_) => 12,
         Kind::Ip6(_) => 36,
         Kind::Unix(_) => 216,

@@ -8,7 +8,7 @@ ghost use Rattle.connection.specs.Connection.{connection_size};
 use connection::CONNECTION;
 use exact::number;
 use kind_code::{kind_of, state_of};
-use record::{Checksum, Kind, Record, blank, record_with};
+use record::{Checksum, Kind, Record, blank};
 
 // The address at a place of a connection.
 fn address_at(bytes: &[u8], at: usize) -> [u8; 108]
@@ -28,14 +28,14 @@ fn connection_of(kind: Kind, checksum: Checksum, bytes: &[u8]) -> Record
 {
     let source = address_at(bytes, 1);
     let destination = address_at(bytes, 109);
-    record_with(
+    Record {
         kind,
         source,
         destination,
-        number(bytes[217], bytes[218]),
-        number(bytes[219], bytes[220]),
+        source_port: number(bytes[217], bytes[218]),
+        destination_port: number(bytes[219], bytes[220]),
         checksum,
-    )
+    }
 }
 
 // What a writer is asked for: a record, or the number that refuses it before its record is looked at.
