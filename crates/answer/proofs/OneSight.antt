@@ -12,7 +12,14 @@ use Rattle.answer.specs.declared.Caller.{Caller}
 use Rattle.answer.specs.declared.Seen.{Seen}
 use Rattle.answer.specs.Answers.{number_of, told_verdict}
 use Rattle.answer.specs.Sight.{reading_of, caller_by, Sees}
-use Rattle.answer.specs.OneSight.{refusal_of, verdict_by}
+use Rattle.std.specs.Prelude.{Result, Ok, Err, IfOk}
+use Rattle.answer.specs.declared.Found.{Found}
+use Rattle.answer.specs.declared.Stop.{Stop}
+use Rattle.answer.specs.declared.Stop.TheVariants as stop
+use Rattle.answer.specs.declared.Sight.{Sight}
+use Rattle.answer.specs.declared.Sight.TheVariants.{Line, Block}
+use Rattle.answer.specs.Headers.{told_sight, PaddedIn}
+use Rattle.answer.specs.OneSight.{refusal_of, verdict_by, sight_by}
 
 refusal_again : (k : Refusal) → refusal_of (number_of k) ≡ k
 refusal_again Start = refl
@@ -35,3 +42,13 @@ pub sees_one : (s : List ℕ) (v : Claim.Verdict Header) (x : Seen) → Sees s v
 sees_one s v x sees =
     ap₂ (λ (w : Verdict) (c : Caller). record { verdict = w; caller = c })
     (sym (verdict_again s x.verdict (reading_of s x)) ∙ ap verdict_by sees.answers.told) sees.caller
+
+sight_again : (s : List ℕ) (x : Result Sight Stop) → IfOk x PaddedIn → x ≡ sight_by (told_sight s x)
+sight_again s (Ok (Line f)) padded = ap (λ (c : Caller). Ok (Line (record { value = c; end = f.end }))) padded
+sight_again s (Ok (Block f)) padded = refl
+sight_again s (Err (stop.More n)) padded = refl
+sight_again s (Err (stop.Refused k p)) padded = ap (λ (j : Refusal). Err (stop.Refused j p)) (sym (refusal_again k))
+
+-- what is seen is this, and nothing else
+pub one_sight : (s : List ℕ) (v : Claim.Verdict Header) (x : Result Sight Stop) → told_sight s x ≡ v → IfOk x PaddedIn → x ≡ sight_by v
+one_sight s v x told padded = sight_again s x padded ∙ ap sight_by told
