@@ -7,7 +7,7 @@ ghost use Rattle.kind_code.specs.States.{state_byte, state_of};
 
 use record::{Checksum, Kind, Transport};
 
-// The code of a kind.
+// The code of a kind. A function, and no `From<Kind> for u8`: byte 13 of a kind (crate record) is another number of it.
 pub fn code_of(kind: Kind) -> u8
     ensures { result ≡ code_of kind }
 {
@@ -40,7 +40,7 @@ pub fn kind_of(code: u8) -> Option<Kind>
     }
 }
 
-// The byte of a state.
+// The byte of a state: a function beside `code_of`, as `state_of` is beside `kind_of`.
 pub fn state_byte(checksum: Checksum) -> u8
     ensures { result ≡ state_byte checksum }
 {

@@ -77,7 +77,8 @@ pub fn family_of(byte: u8) -> Option<Kind>
     }
 }
 
-// Byte 13 of the kind; unspecified and local are written as 00.
+// Byte 13 of the kind; unspecified and local are written as 00. A function, and no `From<Kind> for u8`: a kind has another number, its code
+// (crate kind_code), and `u8::from(kind)` would not say which.
 pub fn kind_byte(kind: Kind) -> u8
     ensures { result ≡ byte_of kind }
 {
