@@ -2,18 +2,17 @@
 #![tactic(auto)]
 
 ghost use Rattle.std.specs.Prelude.{◌≡◌, [], ◌∷◌, length};
-ghost use Rattle.record.specs.declared.Record.{Record};
 ghost use Rattle.lent.specs.Buffers.{told_in};
 ghost use Rattle.answer.specs.Answers.{told_written};
-ghost use Rattle.stored_form.specs.Loading.{told_outcome};
+ghost use Rattle.stored_form.specs.Loading.{told_loaded};
 ghost use Rattle.stored_form.specs.Converting.{told_converted};
 ghost use Rattle.lookup.specs.Lookup.{told_finding};
 ghost use Rattle.numbers.specs.Numbers.{numbers_size, tells_one, four_of, told_of, room_beside, written_number, numbers_after, load_number, lookup_number};
 
 use answer::{Fault, Verdict, fault_number, refusal_number};
 use lookup::Answer;
-use record::Kind;
-use stored_form::{Converted, Outcome, flaw_number};
+use record::{Kind, Record};
+use stored_form::{ConvertError, Flaw, flaw_number};
 
 pub const NUMBERS: usize = 4;
 
@@ -107,22 +106,23 @@ pub fn tell_written(written: Result<usize, Fault>, numbers: &mut [u64]) -> u32
 }
 
 // Tells what a conversion has written, as a writer's answer is told.
-pub fn tell_converted(converted: Converted, numbers: &mut [u64]) -> u32
+pub fn tell_converted(converted: Result<usize, ConvertError>, numbers: &mut [u64]) -> u32
     ensures { (result ≡ written_number (told_converted converted)) × (numbers.new ≡ numbers_after (told_converted converted) numbers.old) }
 {
     match converted {
-        Converted::Stored(written) => tell_written(written, numbers),
-        Converted::Invalid(flaw) => flaw_number(flaw) as u32,
+        Ok(n) => tell_written(Ok(n), numbers),
+        Err(ConvertError::Refused(fault)) => tell_written(Err(fault), numbers),
+        Err(ConvertError::Invalid(flaw)) => flaw_number(flaw) as u32,
     }
 }
 
-// The number of an outcome. A function and no From, likewise.
-pub fn outcome_number(outcome: Outcome) -> u32
-    ensures { (c : Record) → result ≡ load_number (told_outcome outcome c) }
+// The number of what stored bytes are. A function and no From, likewise.
+pub fn outcome_number(loaded: &Result<Record, Flaw>) -> u32
+    ensures { result ≡ load_number (told_loaded loaded.now) }
 {
-    match outcome {
-        Outcome::Accepted => 0,
-        Outcome::Refused(flaw) => flaw_number(flaw) as u32,
+    match loaded {
+        Ok(_) => 0,
+        Err(flaw) => flaw_number(*flaw) as u32,
     }
 }
 

@@ -73,8 +73,7 @@ pub fn load(stored: &[u8], version: StoredVersion, connection: &mut [u8]) -> u32
         return 14;
     }
     let loaded = load::load(stored, version);
-    let outcome = loaded.outcome;
-    let record = loaded.record;
-    put_record(record, connection);
-    outcome_number(outcome)
+    let number = outcome_number(&loaded);
+    put_record(loaded.unwrap_or(blank(Kind::Unspecified)), connection);
+    number
 }

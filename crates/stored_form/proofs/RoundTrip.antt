@@ -24,14 +24,14 @@ use Rattle.clean.proofs.UnusedLaws.{state_clean, clean_test_lem}
 use Rattle.address_block.specs.AddressBlock.{address_block, block_record}
 use Rattle.address_block.proofs.AddressBlockLaws.{block_size, record_again, block_again, block_plain, block_sized}
 use Rattle.answer.specs.Answers.{WriteAnswer, wrote, refuses, output_after}
-use Rattle.answer.proofs.OutputLaws.{not_wrote, written_front}
+use Rattle.answer.proofs.OutputLaws.{not_wrote, written_front, Within, fits_at_last}
 use Rattle.kind_code.specs.Codes.{kind_of}
 use Rattle.kind_code.proofs.CodeLaws.{code_kind}
 use Rattle.stored_form.specs.declared.StoredVersion.{StoredVersion}
 use Rattle.stored_form.specs.declared.StoredVersion.TheVariants.{One, Two}
 use Rattle.stored_form.specs.Heads.{head, head_length, state_in, keeps_test}
 use Rattle.stored_form.proofs.HeadLaws.{keeps_test_lem, head_length_lem, head_version, head_state, behind_head, said_kept, head_again}
-use Rattle.stored_form.specs.Stored.{stored, store_answer}
+use Rattle.stored_form.specs.Stored.{stored, kept_answer, store_answer}
 use Rattle.stored_form.specs.Loading.{LoadAnswer, loads, no_record, loaded_record, has_mark, has_version, load_state, load_kind, load_answer}
 use Rattle.stored_form.specs.Meaning.{Storable, Means, unused, not_kept, too_short, written, LoadsBack, Form, LoadMeans, loaded, refused}
 use Rattle.stored_form.proofs.LoadLaws.{answer_state, block_whole}
@@ -137,6 +137,13 @@ module _ (v : StoredVersion) (s : List ℕ) (bytes : AllBytes s) where
           refused k (λ r form. not_loaded k r (sym e ∙ ap (load_answer v) (sym form.same) ∙ load_stored v r form.sized form.storable))
 
 -- ── the writer ──
+-- what is written fits the room
+pub kept_within : (v : StoredVersion) (c : Checksum) (n room : ℕ) → Within room (kept_answer v c n room)
+kept_within v c n room = pick_by (Within room) (keeps_test v c) (λ t. fits_at_last n room 14) (λ t. tt)
+
+pub store_within : (v : StoredVersion) (r : Record) (room : ℕ) → Within room (store_answer v r room)
+store_within v r room = pick_by (Within room) (clean_test r) (λ t. kept_within v r.checksum _ room) (λ t. tt)
+
 module _ (v : StoredVersion) (r : Record) (room : ℕ) (sized : Sized r) where
   pub answer_means : Means v r room (store_answer v r room)
   answer_means =

@@ -1,12 +1,12 @@
--- What moving stored bytes from one version to the other answers and writes (document 02, K7: "moving forward", "moving back"); in code it is a conversion.
-use Rattle.std.specs.Prelude.{◌≡◌, List, ◌∷◌, ◌++◌, ℕ, ◌≤◌, length, take, drop, get_or, Option, Some, None}
+-- What moving stored bytes from one version to the other answers and writes ("moving forward", "moving back"); in code it is a conversion.
+use Rattle.std.specs.Prelude.{◌≡◌, List, ◌∷◌, ◌++◌, ℕ, ◌≤◌, length, take, drop, get_or, Option, Some, None, Result, Ok, Err}
 use Rattle.record.specs.declared.Checksum.{Checksum}
 use Rattle.record.specs.declared.Checksum.TheVariants.{Absent}
 use Rattle.record.specs.declared.Record.{Record}
-use Rattle.answer.specs.Answers.{WriteAnswer, wrote, refuses, told_written, output_after}
+use Rattle.answer.specs.Answers.{WriteAnswer, wrote, refuses, fault_number, output_after}
 use Rattle.stored_form.specs.declared.StoredVersion.{StoredVersion}
-use Rattle.stored_form.specs.declared.Converted.{Converted}
-use Rattle.stored_form.specs.declared.Converted.TheVariants.{Stored, Invalid}
+use Rattle.stored_form.specs.declared.ConvertError.{ConvertError}
+use Rattle.stored_form.specs.declared.ConvertError.TheVariants.{Invalid, Refused}
 use Rattle.stored_form.specs.Heads.{mark, version_bytes, state_bytes, head_length, state_in}
 use Rattle.stored_form.specs.Stored.{stored, kept_answer, store_answer}
 use Rattle.stored_form.specs.Loading.{LoadAnswer, loads, no_record, flaw_number, load_answer}
@@ -29,9 +29,10 @@ convert_by (loads r) to size room = kept_answer to r.checksum size room
 abbrev pub convert_answer : (from to : StoredVersion) → List ℕ → (room : ℕ) → WriteAnswer
 convert_answer from to s room = convert_by (load_answer from s) to (length (converted from to s)) room
 
-abbrev pub told_converted : Converted → WriteAnswer
-told_converted (Stored w) = told_written w
-told_converted (Invalid flaw) = refuses (flaw_number flaw)
+abbrev pub told_converted : Result ℕ ConvertError → WriteAnswer
+told_converted (Ok n) = wrote n
+told_converted (Err (Invalid flaw)) = refuses (flaw_number flaw)
+told_converted (Err (Refused fault)) = refuses (fault_number fault)
 
 -- ── what the answers mean ──
 -- the answer and the output are those of loading in one version and storing in the other: "An invalid input first gives its reader's number"

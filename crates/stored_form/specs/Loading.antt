@@ -1,5 +1,5 @@
--- What the reader of stored bytes answers, in a version (document 01, "Stored form, version 1" and "Numbered answers"; document 02, K7).
-use Rattle.std.specs.Prelude.{Bool, ◌&&◌, List, ℕ, ◌+◌, eqb, ltb, length, drop, get_or, Option, Some, None}
+-- What the reader of stored bytes answers, in a version ("Stored form", "Numbered answers").
+use Rattle.std.specs.Prelude.{Bool, ◌&&◌, List, ℕ, ◌+◌, eqb, ltb, length, drop, get_or, Option, Some, None, Result, Ok, Err}
 use Rattle.exact.specs.Pick.{pick}
 use Rattle.record.specs.declared.Kind.{Kind}
 use Rattle.record.specs.declared.Kind.TheVariants.{Unspecified}
@@ -11,9 +11,6 @@ use Rattle.clean.specs.Unused.{clean_state}
 use Rattle.address_block.specs.AddressBlock.{block_record}
 use Rattle.stored_form.specs.declared.Flaw.{Flaw}
 use Rattle.stored_form.specs.declared.Flaw.TheVariants.{Mark, Version, Code, State, Length}
-use Rattle.stored_form.specs.declared.Outcome.{Outcome}
-use Rattle.stored_form.specs.declared.Outcome.TheVariants.{Accepted, Refused}
-use Rattle.stored_form.specs.declared.Loaded.{Loaded}
 use Rattle.stored_form.specs.declared.StoredVersion.{StoredVersion}
 use Rattle.stored_form.specs.Heads.{version_byte, head_length, state_in}
 use Rattle.kind_code.specs.Codes.{kind_of}
@@ -31,14 +28,11 @@ pub data LoadAnswer : Type 0 where
   loads : Record → LoadAnswer
   no_record : ℕ → LoadAnswer
 
-abbrev pub told_outcome : Outcome → Record → LoadAnswer
-told_outcome Accepted r = loads r
-told_outcome (Refused flaw) r = no_record (flaw_number flaw)
+abbrev pub told_loaded : Result Record Flaw → LoadAnswer
+told_loaded (Ok r) = loads r
+told_loaded (Err flaw) = no_record (flaw_number flaw)
 
-abbrev pub told_loaded : Loaded → LoadAnswer
-told_loaded x = told_outcome x.outcome x.«record»
-
--- where the bytes are refused, the record is unspecified
+-- what stands for the record where the bytes are refused: unspecified
 abbrev pub loaded_record : LoadAnswer → Record
 loaded_record (loads r) = r
 loaded_record (no_record k) = bare Unspecified

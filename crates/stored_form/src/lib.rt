@@ -1,14 +1,14 @@
-// The stored form of a record, versions 1 and 2 (document 01, "Stored form, version 1"; document 02, K7): what the head of a version has, and what is
-// answered of stored bytes. `store` writes them, `load` reads them, `convert` moves them to the other version. No public function has a `requires`.
+// The stored form of a record, versions 1 and 2: what the head of a version has, and what is answered of stored bytes. `store` writes them, `load` reads them, `convert` moves them to the other version. No public function has a `requires`.
 #![tactic(auto)]
 
 ghost use Rattle.std.specs.Prelude.{◌≡◌};
 ghost use Rattle.stored_form.specs.Heads.{version_byte, head_length, keeps_test};
 ghost use Rattle.stored_form.specs.Loading.{flaw_number};
+ghost use Rattle.stored_form.specs.declared.ConvertError.TheVariants.{Invalid, Refused};
 
 use answer::Fault;
 use clean::is_absent;
-use record::{Checksum, Record};
+use record::Checksum;
 
 // The versions of the stored form.
 #[derive(Clone, Copy)]
@@ -47,7 +47,7 @@ pub fn keeps(version: StoredVersion, checksum: Checksum) -> bool
     }
 }
 
-// Why stored bytes are not a record: document 01's numbers 15 to 18, and document 02's 24.
+// Why stored bytes are not a record: numbers 15 to 18, and 24.
 #[derive(Clone, Copy)]
 pub enum Flaw {
     Mark,
@@ -57,28 +57,30 @@ pub enum Flaw {
     Length,
 }
 
-// What stored bytes are: a record, or why they are none.
+// Why a conversion left the output as it was: its input is no stored form, or the writer of the other version refuses.
 #[derive(Clone, Copy)]
-pub enum Outcome {
-    Accepted,
-    Refused(Flaw),
-}
-
-// An outcome, and the record; where the bytes are refused, the record is unspecified.
-#[derive(Clone, Copy)]
-pub struct Loaded {
-    pub outcome: Outcome,
-    pub record: Record,
-}
-
-// What a conversion answers: as the writer of the other version does, or why its input is no stored form.
-#[derive(Clone, Copy)]
-pub enum Converted {
-    Stored(Result<usize, Fault>),
+pub enum ConvertError {
     Invalid(Flaw),
+    Refused(Fault),
 }
 
-// The papers' number of a flaw.
+impl From<Flaw> for ConvertError {
+    ghost from_gives = { λ flaw error. error ≡ Invalid flaw };
+
+    fn from(flaw: Flaw) -> ConvertError {
+        ConvertError::Invalid(flaw)
+    }
+}
+
+impl From<Fault> for ConvertError {
+    ghost from_gives = { λ fault error. error ≡ Refused fault };
+
+    fn from(fault: Fault) -> ConvertError {
+        ConvertError::Refused(fault)
+    }
+}
+
+// The number of a flaw.
 pub fn flaw_number(flaw: Flaw) -> u8
     ensures { result ≡ flaw_number flaw }
 {

@@ -1,4 +1,4 @@
--- `load` answers by its tests in the order of `load_answer`; the bytes lent are numbers below 256, so that what it answers means what it should.
+-- The tests are made in the order of `load_answer`.
 use Rattle.std.proofs.Common.{ℕ, ◌≤◌, ◌≡◌, sym, ap, ◌∙◌, Bool, true, false, List, arith, length, get_or}
 use Rattle.exact.specs.Pick.{pick}
 use Rattle.record.specs.declared.Kind.{Kind}
@@ -11,7 +11,6 @@ use Rattle.stored_form.proofs.HeadLaws.{six_at_least}
 use Rattle.stored_form.specs.Loading.{LoadAnswer, no_record, has_mark, has_version, load_block, load_answer}
 use Rattle.stored_form.proofs.LoadLaws.{answer_short, answer_mark, answer_version, answer_code, answer_no_state, answer_state}
 use Rattle.load.proofs.load_into.Goals.{After-clean_state, After-has_mark, After-has_version, After-head_length, After-kind_of, After-state_in, Else-s-head_length, In-Some, In-Some-state_in}
-use Rattle.load.specs.After.{record_after}
 use Rattle.load.proofs.load_into.Goals as goal
 
 module _ (c : After-head_length) where
@@ -21,18 +20,12 @@ module _ (c : After-head_length) where
   abbrev version : StoredVersion
   version = c.args.version
 
-  -- a refusal leaves the record that was lent
-  refused : {k : ℕ} → load_answer version bytes ≡ no_record k
-      → (no_record k ≡ load_answer version bytes) × (c.args.into.now ≡ record_after (load_answer version bytes) c.args.into.now)
-  refused e = (sym e, ap (λ (a : LoadAnswer). record_after a c.args.into.now) (sym e))
-
 pub returns-then-s-head_length : goal.returns-then-s-head_length
 returns-then-s-head_length c =
     let d = (goal.at.returns-then-s-head_length c).After-head_length in
     let h = d.head_length.ensures in
     let short = c.if-s-head_length.true in
-    let it = refused d (answer_short (version d) (bytes d) (omega arith)) in
-    record { answer = it.0; put = it.1 }
+    sym (answer_short (version d) (bytes d) (omega arith))
 
 -- behind the test of the length
 module _ (c : Else-s-head_length) where
@@ -49,8 +42,7 @@ pub returns-then-not-has_mark : goal.returns-then-not-has_mark
 returns-then-not-has_mark c =
     let marked = (goal.at.returns-then-not-has_mark c).After-has_mark in
     let d = (goal.at.After-has_mark marked).After-head_length in
-    let it = refused d (answer_mark (version d) (bytes d) (long (goal.at.After-has_mark marked).Else-s-head_length) (sym marked.has_mark.ensures ∙ c.if-not-has_mark.true)) in
-    record { answer = it.0; put = it.1 }
+    sym (answer_mark (version d) (bytes d) (long (goal.at.After-has_mark marked).Else-s-head_length) (sym marked.has_mark.ensures ∙ c.if-not-has_mark.true))
 
 pub has_version-requires : goal.has_version-requires
 has_version-requires c = six (goal.at.has_version-requires c).Else-s-head_length
@@ -69,8 +61,7 @@ module _ (c : After-has_version) where
 pub returns-then-not-has_version : goal.returns-then-not-has_version
 returns-then-not-has_version c =
     let d = (goal.at.returns-then-not-has_version c).After-has_version in
-    let it = refused (first d) (answer_version (version (first d)) (bytes (first d)) (long (lengthy d)) (marked d) (sym d.has_version.ensures ∙ c.if-not-has_version.true)) in
-    record { answer = it.0; put = it.1 }
+    sym (answer_version (version (first d)) (bytes (first d)) (long (lengthy d)) (marked d) (sym d.has_version.ensures ∙ c.if-not-has_version.true))
 
 pub bounds-s-5 : goal.bounds-s-5
 bounds-s-5 c = let s = six (lengthy (goal.at.bounds-s-5 c).After-has_version) in omega arith
@@ -86,12 +77,11 @@ module _ (c : After-kind_of) where
   found : (x : Option Kind) → c.kind_of.result ≡ x → kind_of (get_or (bytes (first tested)) 5 0) ≡ x
   found x e = sym c.kind_of.ensures ∙ e
 
-pub returns-in-None : goal.returns-in-None
-returns-in-None c =
-    let d = (goal.at.returns-in-None c).After-kind_of in
+pub returns-in_default : goal.returns-in_default
+returns-in_default c =
+    let d = (goal.at.returns-in_default c).After-kind_of in
     let e = tested d in
-    let it = refused (first e) (answer_code (version (first e)) (bytes (first e)) (long (lengthy e)) (marked e) (versioned d) (found d _ c.in-None.is)) in
-    record { answer = it.0; put = it.1 }
+    sym (answer_code (version (first e)) (bytes (first e)) (long (lengthy e)) (marked e) (versioned d) (found d _ c.in_default.is))
 
 pub state_in-requires : goal.state_in-requires
 state_in-requires c = long (lengthy (tested (goal.at.state_in-requires c).After-kind_of))
@@ -113,14 +103,13 @@ module _ (c : After-state_in) where
   said : (x : Option Checksum) → c.state_in.result ≡ x → state_in (version at_first) (bytes at_first) ≡ x
   said x e = sym c.state_in.ensures ∙ e
 
-pub returns-in-None-state_in : goal.returns-in-None-state_in
-returns-in-None-state_in c =
-    let s = (goal.at.returns-in-None-state_in c).After-state_in in
+pub returns-in_default-state_in : goal.returns-in_default-state_in
+returns-in_default-state_in c =
+    let s = (goal.at.returns-in_default-state_in c).After-state_in in
     let d = coded s in
     let e = tested d in
-    let it = refused (first e) (answer_no_state (version (first e)) (bytes (first e)) (long (lengthy e)) (marked e) (versioned d) (kind s) (found d _ (named s).in-Some.is)
-    (said s _ c.in-None-state_in.is)) in
-    record { answer = it.0; put = it.1 }
+    sym (answer_no_state (version (first e)) (bytes (first e)) (long (lengthy e)) (marked e) (versioned d) (kind s) (found d _ (named s).in-Some.is)
+    (said s _ c.in_default-state_in.is))
 
 pub load_block-requires : goal.load_block-requires
 load_block-requires c = long (lengthy (tested (coded (goal.at.load_block-requires c).After-state_in)))
@@ -147,14 +136,13 @@ module _ (c : After-clean_state) where
       answer_state (version at-start) (bytes at-start) (long (lengthy t)) (marked t) (versioned d) (kind before-state)
       (found d _ (named before-state).in-Some.is) checksum (said before-state _ stated.in-Some-state_in.is) b (sym c.clean_state.ensures ∙ e)
 
-pub returns-then-clean_state : goal.returns-then-clean_state
-returns-then-clean_state c =
-    let d = (goal.at.returns-then-clean_state c).After-clean_state in
-    let e = by_state d true c.if-clean_state.true in
-    record { answer = c.load_block.ensures.answer ∙ sym e; put = c.load_block.ensures.put ∙ ap (λ (a : LoadAnswer). record_after a c.args.into.now) (sym e) }
+pub returns : goal.returns
+returns c =
+    let d = (goal.at.returns c).After-clean_state in
+    let e = by_state d true c.if-not-clean_state.false in
+    c.load_block.ensures ∙ sym e
 
-pub returns-else-clean_state : goal.returns-else-clean_state
-returns-else-clean_state c =
-    let d = (goal.at.returns-else-clean_state c).After-clean_state in
-    let it = refused (at-start d) (by_state d false c.if-clean_state.false) in
-    record { answer = it.0; put = it.1 }
+pub returns-then-not-clean_state : goal.returns-then-not-clean_state
+returns-then-not-clean_state c =
+    let d = (goal.at.returns-then-not-clean_state c).After-clean_state in
+    sym (by_state d false c.if-not-clean_state.true)
