@@ -14,6 +14,7 @@ use Rattle.record.specs.declared.Checksum.{Checksum}
 use Rattle.record.specs.declared.Record.{Record}
 use Rattle.answer.specs.declared.Fault.{Fault}
 use Rattle.answer.specs.Answers.{WriteAnswer, wrote, refuses, told_written, output_after}
+use Rattle.answer.proofs.OutputLaws.{Within}
 use Rattle.stored_form.specs.declared.StoredVersion.{StoredVersion}
 use Rattle.stored_form.specs.Heads.{keeps_test}
 use Rattle.stored_form.specs.Stored.{kept_answer}
@@ -22,19 +23,6 @@ use Rattle.numbers.specs.Numbers.{numbers_size, room_beside, written_number, num
 use Rattle.write_interface.specs.WriteInterface.{asked_answer, Writes}
 
 -- ── what a writer leaves of a part of the output ──
--- what is written fits the room
-abbrev pub Within : ℕ → WriteAnswer → Type 0
-Within room (wrote n) = n ≤ room
-Within room (refuses k) = Unit {0}
-
--- a writer that answers by the room at last
-pub fits_at_last : (n room k : ℕ) → Within room (pick (leb n room) (wrote n) (refuses k))
-fits_at_last n room k = pick_by (Within room) (leb n room) (λ t. leb-true n room t) (λ t. tt)
-
--- one that answers by the state before
-pub kept_within : (v : StoredVersion) (c : Checksum) (n room : ℕ) → Within room (kept_answer v c n room)
-kept_within v c n room = pick_by (Within room) (keeps_test v c) (λ t. fits_at_last n room 14) (λ t. tt)
-
 -- the part that is left for the output
 pub room_inside : (numbers output : ℕ) → room_beside numbers output ≤ output
 room_inside numbers output = pick_by (λ (r : ℕ). r ≤ output) (leb numbers_size numbers) (λ t. omega arith) (λ t. omega arith)

@@ -6,7 +6,8 @@ use Rattle.answer.specs.Answers.{told_written, output_after}
 use Rattle.ssl_reader.specs.Ssl.{is_absent, lacks_version}
 use Rattle.ssl_writer.specs.declared.Present.{Present}
 use Rattle.ssl_writer.specs.Written.{Piece, pieces_of, ssl_value, ssl_answer}
-use Rattle.write_interface.proofs.WriteLaws.{Within, fits_at_last, told_part, part_inside, part_size}
+use Rattle.answer.proofs.OutputLaws.{Within, fits_at_last}
+use Rattle.write_interface.proofs.WriteLaws.{told_part, part_inside, part_size}
 use Rattle.ssl_interface.specs.SslInterface.{present_of}
 use Rattle.ssl_interface.proofs.write.Goals.{After-present_of-there, After-tell_written, After-write_ssl, Start}
 use Rattle.ssl_interface.proofs.write.Goals as goal

@@ -3,7 +3,9 @@ use Rattle.std.proofs.Common.{ℕ, length}
 use Rattle.stored_form.specs.declared.StoredVersion.{StoredVersion}
 use Rattle.stored_form.specs.Loading.{LoadAnswer, loads, no_record, load_answer}
 use Rattle.stored_form.specs.Converting.{converted, convert_by, convert_answer, told_converted}
-use Rattle.write_interface.proofs.WriteLaws.{Within, kept_within, told_part, part_inside, part_size}
+use Rattle.answer.proofs.OutputLaws.{Within}
+use Rattle.stored_form.proofs.RoundTrip.{kept_within}
+use Rattle.write_interface.proofs.WriteLaws.{told_part, part_inside, part_size}
 use Rattle.write_interface.proofs.convert.Goals.{After-convert, After-tell_converted}
 use Rattle.write_interface.proofs.convert.Goals as goal
 
