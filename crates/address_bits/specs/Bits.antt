@@ -1,4 +1,4 @@
--- The bits of addresses, as prefixes speak of them (document 02, K14).
+-- The bits of addresses, as prefixes speak of them.
 use Rattle.std.specs.Prelude.{◌≡◌, Bool, true, ◌&&◌, List, ℕ, zero, suc, ◌+◌, ◌-◌, ◌/◌, ◌%◌, ◌^◌, ◌≤◌, ◌<◌, eqb, get_or}
 
 -- bit i of an address: eight to a byte, the highest first; behind its bytes they are 0

@@ -1,4 +1,4 @@
--- An address prefix, as a row of a table says it (document 02, K14).
+-- An address prefix, as a row of a table says it.
 use Rattle.std.specs.Prelude.{◌≡◌, List, ◌⊎◌, ℕ, ◌≤◌, get_or, take, drop}
 use Rattle.address_bits.specs.Bits.{SameBits, ClearBits}
 

@@ -1,13 +1,11 @@
-// Prefix tables (document 02, K14): whether a table is good, and the level that it gives a source. No public function has a `requires`.
+// Prefix tables: whether a table is good, and the level that it gives a source. No public function has a `requires`.
 #![tactic(auto)]
 
-ghost use Rattle.std.specs.Prelude.{◌≡◌};
+ghost use Rattle.std.specs.Prelude.{◌≡◌, map};
 ghost use Rattle.prefix.specs.Prefix.{row_of};
 ghost use Rattle.prefix_table.specs.Table.{rows_of};
 ghost use Rattle.prefix_table.specs.TableTests.{known, good_table, level_in};
 
-use address_bits::byte_at;
-use lent::behind;
 use prefix::{is_good, matches, same_prefix};
 
 // Bytes of a row: family, bits, level, and sixteen of the address.
@@ -17,15 +15,13 @@ const ROW: usize = 19;
 const MOST_ROWS: usize = 64;
 
 // Whether one of the rows has the prefix of this one.
-fn is_known(row: &[u8], rows: &[u8]) -> bool
-    ensures { result ≡ known (row_of row.now) (rows_of rows.now) }
+fn is_known(row: &[u8; ROW], rows: &[[u8; ROW]]) -> bool
+    ensures { result ≡ known (row_of row.now) (map row_of rows.now) }
 {
-    let mut at: usize = 0;
-    while ROW <= rows.len() - at {
-        if same_prefix(row, behind(rows, at)) {
+    for other in rows {
+        if same_prefix(row, other) {
             return true;
         }
-        at += ROW;
     }
     false
 }
@@ -35,20 +31,18 @@ fn is_known(row: &[u8], rows: &[u8]) -> bool
 pub fn is_good_table(table: &[u8]) -> bool
     ensures { result ≡ good_table table.now }
 {
-    if table.len() % ROW != 0 {
+    let (rows, rest) = table.as_chunks::<ROW>();
+    if !rest.is_empty() {
         return false;
     }
-    if MOST_ROWS < table.len() / ROW {
+    if MOST_ROWS < rows.len() {
         return false;
     }
-    let mut at: usize = 0;
-    while ROW <= table.len() - at {
-        let row = behind(table, at);
-        at += ROW;
+    for (i, row) in rows.iter().enumerate() {
         if !is_good(row) {
             return false;
         }
-        if is_known(row, behind(table, at)) {
+        if is_known(row, &rows[i + 1..]) {
             return false;
         }
     }
@@ -59,20 +53,18 @@ pub fn is_good_table(table: &[u8]) -> bool
 pub fn level_of(table: &[u8], family: u8, source: &[u8]) -> u8
     ensures { result ≡ level_in (rows_of table.now) family source.now }
 {
-    let mut at: usize = 0;
+    let (rows, _) = table.as_chunks::<ROW>();
     let mut reach: usize = 0;
     let mut level: u8 = 0;
-    while ROW <= table.len() - at {
-        let row = behind(table, at);
-        let next = byte_at(row, 1) as usize + 1;
+    for row in rows {
+        let next = row[1] as usize + 1;
         let further = reach < next;
         if further {
             if matches(row, family, source) {
                 reach = next;
-                level = byte_at(row, 2);
+                level = row[2];
             }
         }
-        at += ROW;
     }
     level
 }

@@ -1,11 +1,9 @@
--- The loop's invariant: the rows from the place on decide.
-use Rattle.std.proofs.Common.{◌≡◌, ◌-◌, ◌≤◌, length, drop}
-use Rattle.prefix_table.specs.Table.{rows_of}
-use Rattle.prefix_table.specs.TableTests.{good_rows, good_table}
+-- The loop's invariant: the rows from the index on decide.
+use Rattle.std.proofs.Common.{◌≡◌, drop}
+use Rattle.std.specs.Prelude.{map}
+use Rattle.prefix.specs.Prefix.{row_of}
+use Rattle.prefix_table.specs.TableTests.{good_rows}
 use Rattle.prefix_table.proofs.is_good_table.Given as goal
 
-abbrev pub invariant-loop-at : goal.invariant-loop-at
-invariant-loop-at l = (l.at ≤ length l.table) × (good_rows (rows_of (drop l.at l.table)) ≡ good_table l.table)
-
-abbrev pub decreases-loop-at : goal.decreases-loop-at
-decreases-loop-at l = length l.table - l.at
+abbrev pub invariant-loop-i : goal.invariant-loop-i
+invariant-loop-i l = good_rows (map row_of (drop l.i l.rows)) ≡ good_rows (map row_of l.rows)
