@@ -73,6 +73,7 @@ pub fn push_answer(draft: &mut Draft, answer: &Result<Header, Stop>)
 
 // Fills the buffer from the front, until it is full or the stream ends, and answers how many bytes it put. However the stream cuts its
 // bytes, those are its first ones. An error is the stream's own, of the first read that fails; what was read by then is in front.
+// (A loop: std's `read_exact` says nothing of what an error leaves, nor of how far it came where the stream ends early.)
 pub fn read_full<R: Read>(reader: &mut R, buffer: &mut [u8]) -> io::Result<usize>
     ensures bound { ReadsAtMost result buffer.new }
     ensures room { length buffer.new ≡ length buffer.old }
@@ -93,7 +94,7 @@ pub fn read_full<R: Read>(reader: &mut R, buffer: &mut [u8]) -> io::Result<usize
 }
 
 // Writes the bytes to a stream. An error is the stream's own, of the first write that fails, or `WriteZero` where one takes no byte; some first
-// bytes are written then. (std's `write_all` says nothing of what an error leaves.)
+// bytes are written then. (A loop: std's `write_all` says nothing of what an error leaves.)
 fn write_whole<W: Write>(writer: &mut W, bytes: &[u8]) -> io::Result<()>
     ensures written { OnOk result (Appends (W.contents writer.old) (W.contents writer.new) bytes.now) }
     ensures failed { OnErr result ((n : ℕ) × Appends (W.contents writer.old) (W.contents writer.new) (take n bytes.now)) }
