@@ -1,15 +1,8 @@
-// Lent bytes: parts of them, cut at their end, whether two are the same, and bytes put into them. No public function has a `requires`.
+// Lent bytes: parts of them, cut at their end, and bytes put into them. No public function has a `requires`.
 #![tactic(auto)]
 
 ghost use Rattle.std.specs.Prelude.{◌≡◌, ◌+◌, min, length, take, drop, get_or};
 ghost use Rattle.lent.specs.Placed.{placed};
-ghost use Rattle.lent.specs.Same.{same};
-
-pub fn least(a: usize, b: usize) -> usize
-    ensures { result ≡ min a b }
-{
-    a.min(b)
-}
 
 // The first n bytes, as the very part of the lent ones.
 pub fn front(bytes: &[u8], n: usize) -> &[u8]
@@ -36,13 +29,6 @@ pub fn byte_at(bytes: &[u8], at: usize) -> u8
     ensures { result ≡ get_or bytes.now at 0 }
 {
     bytes.get(at).copied().unwrap_or(0)
-}
-
-// Whether the bytes are the same.
-pub fn same_bytes(a: &[u8], b: &[u8]) -> bool
-    ensures { result ≡ same a.now b.now }
-{
-    a == b
 }
 
 // Puts the bytes at this place of the output, where they fit; else the output stays as it is.

@@ -8,7 +8,7 @@ ghost use Rattle.ssl_writer.specs.Steps.{size_if, size_all, answer_by, piece_pla
 ghost use Rattle.ssl_writer.specs.Writes.{Writes};
 
 use answer::Fault;
-use lent::{least, put};
+use lent::put;
 use network32::network_bytes;
 use ssl_reader::lacks_version;
 use tlv_writer::put_tlv;
@@ -42,7 +42,7 @@ fn with_piece(length: usize, there: bool, size: usize) -> usize
         if 65535 < size {
             return 65536;
         }
-        least(length + 3 + size, 65536)
+        (length + 3 + size).min(65536)
     } else {
         length
     }
