@@ -10,8 +10,8 @@ ghost use Rattle.checksum.specs.State.{state_in, state_from, checked_verdict};
 ghost use Rattle.checked_reader.specs.CheckedReading.{told_checked};
 ghost use Rattle.checked_reader.specs.First.{FirstAt};
 
-use answer::{Header, Stop, Verdict};
-use area::area_span;
+use answer::{Header, Stop};
+use area::span_of;
 use crc::crc32c_cleared;
 use lent::{behind, front};
 use lookup::{Answer, lookup};
@@ -85,11 +85,7 @@ pub fn read_checked(s: &[u8]) -> Result<Header, CheckedStop>
     ensures claim { Checks s.now (told_checked s.now result) }
 {
     let header = read_header(s)?;
-    let verdict = Verdict::Accepted {
-        length: header.length,
-        version: header.version,
-    };
-    let area = area_span(verdict, header.record.kind, s.len());
+    let area = span_of(header.length, header.version, header.record.kind, s.len());
     match check_header(front(s, area.end), area.start) {
         Some(checksum) => Ok(Header {
             record: Record {

@@ -9,7 +9,7 @@ use Rattle.answer.specs.declared.Header.{Header}
 use Rattle.answer.specs.declared.Stop.{Stop}
 use Rattle.answer.specs.declared.Stop.TheVariants.{More, Refused}
 use Rattle.answer.specs.Headers.{told_stop, told_header}
-use Rattle.area.specs.Area.{area_start, area_end}
+use Rattle.area.specs.Area.{span_start, span_end}
 use Rattle.reader.specs.Read.{ReadsHeader}
 use Rattle.checksum.specs.Checked.{CheckedVerdict, judged, Checks}
 use Rattle.checksum.specs.State.{state_from, state_on, checked_by, checked_verdict}
@@ -29,7 +29,7 @@ module _ (s : List ℕ) where
 
   -- the state of one
   module _ (h : Header) (r : ReadsHeader s (Ok h)) (state : Option Checksum) (start end : ℕ)
-      (from : start ≡ area_start (Accepted h.length h.version) h.«record».kind (length s)) (to : end ≡ area_end (Accepted h.length h.version) h.«record».kind (length s))
+      (from : start ≡ span_start h.length h.version h.«record».kind (length s)) (to : end ≡ span_end h.length h.version h.«record».kind (length s))
       (said : state ≡ state_from (take end s) start) where
     by_state_lem : checked_by (told_header s (Ok h)) state ≡ checked_verdict s
     by_state_lem =
@@ -49,16 +49,16 @@ returns-in_err-header-clause-claim c =
 
 pub returns-in-Some-clause-told : goal.returns-in-Some-clause-told
 returns-in-Some-clause-told c =
-    by_state_lem c.args.s.now c.in_ok-header.header c.in_ok-header.ensures _ _ _ c.area_span-area.ensures.0 c.area_span-area.ensures.1
-    (sym c.in-Some.is ∙ c.check_header.ensures ∙ ap (λ (f : List ℕ). state_from f c.area_span-area.result.start) c.front.ensures.2)
+    by_state_lem c.args.s.now c.in_ok-header.header c.in_ok-header.ensures _ _ _ c.span_of-area.ensures.start c.span_of-area.ensures.end
+    (sym c.in-Some.is ∙ c.check_header.ensures ∙ ap (λ (f : List ℕ). state_from f c.span_of-area.result.start) c.front.ensures.2)
 
 pub returns-in-Some-clause-claim : goal.returns-in-Some-clause-claim
 returns-in-Some-clause-claim c = claimed c.args.s.now _ (returns-in-Some-clause-told c)
 
 pub returns-in-None-clause-told : goal.returns-in-None-clause-told
 returns-in-None-clause-told c =
-    by_state_lem c.args.s.now c.in_ok-header.header c.in_ok-header.ensures _ _ _ c.area_span-area.ensures.0 c.area_span-area.ensures.1
-    (sym c.in-None.is ∙ c.check_header.ensures ∙ ap (λ (f : List ℕ). state_from f c.area_span-area.result.start) c.front.ensures.2)
+    by_state_lem c.args.s.now c.in_ok-header.header c.in_ok-header.ensures _ _ _ c.span_of-area.ensures.start c.span_of-area.ensures.end
+    (sym c.in-None.is ∙ c.check_header.ensures ∙ ap (λ (f : List ℕ). state_from f c.span_of-area.result.start) c.front.ensures.2)
 
 pub returns-in-None-clause-claim : goal.returns-in-None-clause-claim
 returns-in-None-clause-claim c = claimed c.args.s.now _ (returns-in-None-clause-told c)
