@@ -9,7 +9,7 @@ use Rattle.exact.specs.Verdicts.{Few}
 use Rattle.exact.proofs.Stage.{on, stage_accepted}
 use Rattle.exact.specs.declared.Scan.{Scan}
 use Rattle.exact.specs.declared.Scan.TheVariants as scan
-use Rattle.exact.specs.Scans.{told, present}
+use Rattle.exact.specs.Scans.{told, present, Inside}
 use Rattle.answer.specs.declared.Refusal.{Refusal}
 use Rattle.answer.specs.declared.Found.{Found}
 use Rattle.answer.specs.declared.Stop.{Stop}
@@ -62,6 +62,30 @@ field_at {A} {B} g r s at k m judge {x} is found inside small within few = (answ
 
     answer : told_found g x ≡ shift at (judge (drop at s))
     answer = ap (told_found g) is ∙ placed_told g r at k m (found ∙ ap judge (tail_all at s)) (omega (arith, room)) few
+
+-- the same of a scan that says how far it reaches and how much it asks
+pub field_in : {A B : Type 0} (g : A → B) (r : Scan A) (s : List ℕ) (at most : ℕ) (k : Refusal) (m : ℕ) (judge : List ℕ → Verdict B) {x : Result (Found A) Stop}
+    → x ≡ placed r at k m → told_scan g (number_of k) m r ≡ judge (take (length s - at) (drop at s)) → at ≤ length s → length s < 2 ^ 64
+    → Inside (length (take (length s - at) (drop at s))) most r → most + m < 1000
+    → (told_found g x ≡ shift at (judge (drop at s))) × IfOk x (λ f. f.end ≤ length s)
+field_in {A} {B} g r s at most k m judge is found inside small within few =
+    field_at g r s at k m judge is found inside small
+    (subst (λ (t : List ℕ). reach (judge t) ≤ length t) (tail_all at s)
+    (subst (λ (v : Verdict B). reach v ≤ length tail) found (reaches r within)))
+    (subst (λ (t : List ℕ). Few 1000 (judge t)) (tail_all at s) (subst (Few 1000) found (asks r within)))
+  where
+    tail : List ℕ
+    tail = take (length s - at) (drop at s)
+
+    reaches : (y : Scan A) → Inside (length tail) most y → reach (told_scan g (number_of k) m y) ≤ length tail
+    reaches (scan.Accepted a n) h = h
+    reaches (scan.More n) h = omega arith
+    reaches (scan.Refused p) h = omega arith
+
+    asks : (y : Scan A) → Inside (length tail) most y → Few 1000 (told_scan g (number_of k) m y)
+    asks (scan.Accepted a n) h = tt
+    asks (scan.More n) h = omega arith
+    asks (scan.Refused p) h = tt
 
 -- where no byte is left, the answer is that to no bytes
 pub at_end : {A : Type 0} (judge : List ℕ → Verdict A) (s : List ℕ) (at : ℕ) → length s ≤ at → shift at (judge []) ≡ shift at (judge (drop at s))

@@ -1,5 +1,5 @@
--- What the families of a TCP line differ in, six being true for TCP6, and the bytes of an address as a caller holds them.
-use Rattle.std.specs.Prelude.{◌≡◌, Bool, true, false, List, ℕ, ◌+◌, take}
+-- What the families of a TCP line differ in, and the bytes of an address as a caller holds them.
+use Rattle.std.specs.Prelude.{◌≡◌, List, ℕ, ◌+◌, take}
 use Rattle.exact.specs.Claim.{Verdict, accepted, more, refused}
 use Rattle.exact.specs.declared.Scan.{Scan}
 use Rattle.exact.specs.declared.Scan.TheVariants.{Accepted, More, Refused}
@@ -10,22 +10,24 @@ use Rattle.record.specs.Kinds.{address_length}
 use Rattle.record.specs.Records.{held}
 use Rattle.fields.specs.LineFields.{AddressParser}
 use Rattle.fields.specs.Exactness.{address4, address6}
+use Rattle.line_address.specs.declared.Inet.{Inet}
+use Rattle.line_address.specs.declared.Inet.TheVariants.{V4, V6}
 
-abbrev pub tcp_kind : Bool → Kind
-tcp_kind true = Ip6 Stream
-tcp_kind false = Ip4 Stream
+abbrev pub tcp_kind : Inet → Kind
+tcp_kind V4 = Ip4 Stream
+tcp_kind V6 = Ip6 Stream
 
-abbrev pub width : Bool → ℕ
-width six = address_length (tcp_kind six)
+abbrev pub width : Inet → ℕ
+width inet = address_length (tcp_kind inet)
 
-abbrev pub field : Bool → AddressParser
-field true = address6
-field false = address4
+abbrev pub field : Inet → AddressParser
+field V4 = address4
+field V6 = address6
 
 -- how many bytes the shortest address has with the space that ends it: "0.0.0.0 " or ":: "
-abbrev pub shortest_address : Bool → ℕ
-shortest_address true = 3
-shortest_address false = 8
+abbrev pub shortest_address : Inet → ℕ
+shortest_address V4 = 8
+shortest_address V6 = 3
 
 -- the bytes of an address, in the first n of an array; m is what is asked behind it
 abbrev pub told_bytes : (n m : ℕ) → Scan (List ℕ) → Verdict (List ℕ)

@@ -1,86 +1,67 @@
 // The addresses of a TCP line: IPv4 or IPv6 text that a space ends, as the bytes of the address. No public function has a `requires`.
 #![tactic(auto)]
 
-ghost use Rattle.std.specs.Prelude.{◌≡◌, ℕ, ◌/◌, ◌%◌};
-ghost use Rattle.header.specs.Line.{group_bytes};
-ghost use Rattle.fields.specs.Exactness.{address4 as field_of4, address6 as field_of6};
-ghost use Rattle.line_address.specs.Families.{told_bytes, Padded, width, field};
+ghost use Rattle.std.specs.Prelude.{◌≡◌, ℕ};
+ghost use Rattle.line_address.specs.Families.{told_bytes, padded, Padded, tcp_kind, shortest_address, width, field};
 
 use exact::Scan;
+use ip4::ip4;
+use record::{Kind, Transport};
+use std::net::Ipv6Addr;
 
-// The high byte of a group.
-fn high(group: u16) -> u8
-    ensures { result ≡ group / 256 }
-{
-    (group / 256) as u8
+/// What the addresses of a TCP line are: TCP4's or TCP6's.
+#[derive(Clone, Copy)]
+pub enum Inet {
+    V4,
+    V6,
 }
 
-// The low byte of a group.
-fn low(group: u16) -> u8
-    ensures { result ≡ group % 256 }
-{
-    (group % 256) as u8
-}
-
-// The bytes of eight groups, in network order.
-fn group_bytes(groups: [u16; 8]) -> [u8; 16]
-    ensures { result ≡ group_bytes groups }
-{
-    [
-        high(groups[0]),
-        low(groups[0]),
-        high(groups[1]),
-        low(groups[1]),
-        high(groups[2]),
-        low(groups[2]),
-        high(groups[3]),
-        low(groups[3]),
-        high(groups[4]),
-        low(groups[4]),
-        high(groups[5]),
-        low(groups[5]),
-        high(groups[6]),
-        low(groups[6]),
-        high(groups[7]),
-        low(groups[7]),
-    ]
-}
-
-// The octets of an IPv4 address, in the first 4 of the bytes, with zeros behind them.
-fn address4(s: &[u8]) -> Scan<[u8; 16]>
-    ensures verdict { (m : ℕ) → told_bytes 4 m result ≡ (field_of4 m).verdict s.now }
-    ensures padded { Padded 4 result }
-{
-    let found = ip4::ip4(s, b' ');
-    match found {
-        Scan::Accepted(octets, size) => {
-            let mut padded = [0u8; 16];
-            padded[0] = octets[0];
-            padded[1] = octets[1];
-            padded[2] = octets[2];
-            padded[3] = octets[3];
-            Scan::Accepted(padded, size)
+impl Inet {
+    pub fn kind(self) -> Kind
+        ensures { result ≡ tcp_kind self }
+    {
+        match self {
+            Inet::V4 => Kind::Ip4(Transport::Stream),
+            Inet::V6 => Kind::Ip6(Transport::Stream),
         }
-        Scan::More(least) => Scan::More(least),
-        Scan::Refused(place) => Scan::Refused(place),
+    }
+
+    /// How many bytes the shortest address has, with the space that ends it: "0.0.0.0 " or ":: ".
+    pub fn shortest(self) -> usize
+        ensures { result ≡ shortest_address self }
+    {
+        match self {
+            Inet::V4 => 8,
+            Inet::V6 => 3,
+        }
     }
 }
 
-fn address6(s: &[u8]) -> Scan<[u8; 16]>
-    ensures verdict { (m : ℕ) → told_bytes 16 m result ≡ (field_of6 m).verdict s.now }
-    ensures padded { Padded 16 result }
+// The octets at the front of sixteen bytes, with zeros behind them.
+fn padded(octets: [u8; 4]) -> [u8; 16]
+    ensures { result ≡ padded octets }
 {
-    match ip6::address(s, b' ') {
-        Scan::Accepted(groups, size) => Scan::Accepted(group_bytes(groups), size),
-        Scan::More(least) => Scan::More(least),
-        Scan::Refused(place) => Scan::Refused(place),
-    }
+    let [a, b, c, d] = octets;
+    [a, b, c, d, 0, 0, 0, 0, 0, 0, 0, 0, 0, 0, 0, 0]
 }
 
-// The address of a TCP6 line if six, else of a TCP4 line, at the front of sixteen bytes, with zeros behind it.
-pub fn address(s: &[u8], six: bool) -> Scan<[u8; 16]>
-    ensures verdict { (m : ℕ) → told_bytes (width six) m result ≡ (field six m).verdict s.now }
-    ensures padded { Padded (width six) result }
+/// The address of a TCP line, at the front of sixteen bytes, with zeros behind it.
+pub fn address(s: &[u8], inet: Inet) -> Scan<[u8; 16]>
+    ensures verdict { (m : ℕ) → told_bytes (width inet) m result ≡ (field inet m).verdict s.now }
+    ensures padded { Padded (width inet) result }
 {
-    if six { address6(s) } else { address4(s) }
+    match inet {
+        Inet::V4 => match ip4(s, b' ') {
+            Scan::Accepted(octets, size) => Scan::Accepted(padded(octets), size),
+            Scan::More(least) => Scan::More(least),
+            Scan::Refused(place) => Scan::Refused(place),
+        },
+        Inet::V6 => match ip6::address(s, b' ') {
+            Scan::Accepted(groups, size) => {
+                Scan::Accepted(Ipv6Addr::from(groups).octets(), size)
+            }
+            Scan::More(least) => Scan::More(least),
+            Scan::Refused(place) => Scan::Refused(place),
+        },
+    }
 }

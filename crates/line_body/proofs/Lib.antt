@@ -1,2 +1,4 @@
 pub mod AddressLaws
 pub mod Choices
+pub mod FieldLaws
+pub mod SourceLaws

@@ -1,15 +1,15 @@
 // The reader of PROXY protocol headers of both versions: what lent received bytes are. No public function has a `requires`.
 #![tactic(auto)]
 
-ghost use Rattle.std.specs.Prelude.{◌≡◌, List, ℕ};
+ghost use Rattle.std.specs.Prelude.{◌≡◌, List, ℕ, IfOk};
 ghost use Rattle.fields.proofs.HeaderVerdict.{verdict as verdict_on};
 ghost use Rattle.answer.specs.Sight.{record_by, reading_of, caller_by, Sees as SeesOld};
 ghost use Rattle.reader.specs.Read.{Reads, ReadsHeader, Sees};
-ghost use Rattle.answer.specs.Headers.{header_of, told_block};
+ghost use Rattle.answer.specs.Headers.{header_of, told_block, told_line, Padded};
 
 use address_block::{addresses_of, record_from};
 use answer::{
-    Found, Header, Reading, Seen, Sight, Stop, Verdict, in_bytes, more, of_kind, refused,
+    Caller, Found, Header, Reading, Seen, Sight, Stop, Verdict, in_bytes, more, of_kind, refused,
 };
 use block::block;
 use lent::behind;
@@ -35,6 +35,28 @@ fn seen_of(found: Result<Found<Kind>, Stop>) -> Seen
     }
 }
 
+// What is seen of a line.
+fn seen_of_line(found: Result<Found<Caller>, Stop>) -> Seen
+    ensures { (s : List ℕ) → IfOk found (λ f. Padded f.value) → SeesOld s (told_line found) result }
+{
+    match found {
+        Ok(line) => {
+            let caller = line.value;
+            Seen {
+                verdict: Verdict::Accepted {
+                    length: line.end,
+                    version: 1,
+                },
+                caller,
+            }
+        }
+        Err(stop) => match stop {
+            Stop::More { least } => more(least),
+            Stop::Refused { refusal, place } => refused(refusal, place),
+        },
+    }
+}
+
 // What is seen in the bytes so far: demand 3 of document 01, for every s, before a record is made. The caller is the
 // verdict's, down to the bytes that no address uses.
 pub fn see(s: &[u8]) -> Seen
@@ -46,7 +68,11 @@ pub fn see(s: &[u8]) -> Seen
         None => more(15),
         Some(first) => {
             let text = *first == b'P';
-            if text { line(s) } else { seen_of(block(s)) }
+            if text {
+                seen_of_line(line(s))
+            } else {
+                seen_of(block(s))
+            }
         }
     }
 }

@@ -10,7 +10,10 @@ returns-in-None c =
 
 pub returns-then-text : goal.returns-then-text
 returns-then-text c =
-    let it = reads_as c.line.ensures (of_line c.args.s.now _ c.in-Some.ensures.value c.if-text.true) in
+    let it =
+    reads_as (sees_as (c.seen_of_line.ensures c.args.s.now c.line.ensures.padded) c.line.ensures.verdict)
+    (of_line c.args.s.now _ c.in-Some.ensures.value c.if-text.true)
+    in
     record { reads = it.0; caller = it.1 }
 
 pub returns-else-text : goal.returns-else-text
