@@ -22,7 +22,8 @@ fn is_replaced(run: Run) -> bool
     2 <= run.count
 }
 
-// IPv6 text: eight groups with colons, "::" in place of the longest run of two or more zeros, the first of equals.
+// IPv6 text: eight groups with colons, "::" in place of the longest run of two or more zeros, the first of equals. (Groups by value: a rule of the
+// project, docs/DECISIONS.md.)
 fn push_groups(draft: &mut Draft, groups: [u16; 8])
     ensures { Adds draft.old draft.new (groups_text groups) }
 {

@@ -43,7 +43,7 @@ fn length_of(s: &[u8], block: usize) -> Result<usize, Stop>
     }
 }
 
-// From 16 on, where the block is not looked at.
+// From 16 on, where the block is not looked at. (Not one with `addresses`: this one counts bytes, and that one judges TLVs.)
 fn skipped(s: &[u8], kind: Kind, size: usize) -> Result<Found<Kind>, Stop>
     requires none { block_length kind ≡ 0 }
     requires whole { 16 ≤ length s.now }

@@ -55,7 +55,8 @@ pub fn in_order(
     Ok(16 + n)
 }
 
-// What is answered for an area and an output of this size: the record is to be plain, and the area to fit its kind.
+// What is answered for an area and an output of this size: the record is to be plain, and the area to fit its kind. (The record by value: of one behind
+// a reference only the parts that a body reads are known, and `in_memory` takes all.)
 fn check(from: Record, area: &[u8], room: usize) -> Result<usize, Fault>
     ensures { told_written result ≡ block_answer from area.now room }
 {

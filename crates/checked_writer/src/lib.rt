@@ -26,7 +26,8 @@ fn request_fits(kind: Kind, area: &[u8]) -> bool
     }
 }
 
-// What is answered for an area and an output of this size: the record is to be clean, and a checksum TLV of seven bytes to fit beside the area.
+// What is answered for an area and an output of this size: the record is to be clean, and a checksum TLV of seven bytes to fit beside the area. (The
+// record by value: of one behind a reference only the parts that a body reads are known, and `in_memory` takes all.)
 fn check(from: Record, area: &[u8], room: usize) -> Result<usize, Fault>
     ensures { told_written result ≡ checked_answer from area.now room }
 {
@@ -55,7 +56,7 @@ pub fn write_checked(from: Record, area: &[u8], out: &mut [u8]) -> Result<usize,
     Ok(n)
 }
 
-// Writes a version 2 header, with a checksum on request.
+// Writes a version 2 header, with a checksum on request. (The switch stays for callers in Rattle: docs/TRACE.md names `write_header`.)
 pub fn write_header(
     from: Record,
     area: &[u8],

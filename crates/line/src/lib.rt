@@ -1,4 +1,5 @@
 // A version 1 line up to "TCP" or "UNKNOWN". Each field is read at its place in the bytes, and the next one stands behind it.
+// (The bytes and the place are two arguments: a type for both is no plainer, since each clause speaks of the bytes from the place on, `drop at s.now`.)
 // No public function has a `requires`.
 #![tactic(auto)]
 

@@ -46,6 +46,7 @@ fn padded(octets: [u8; 4]) -> [u8; 16]
 }
 
 /// The address of a TCP line, at the front of sixteen bytes, with zeros behind it.
+// (The arms of `More` and `Refused` stand twice: the two scans are of two types, and one function over both would take a closure, which is longer.)
 pub fn address(s: &[u8], inet: Inet) -> Scan<[u8; 16]>
     ensures verdict { (m : ℕ) → told_bytes (width inet) m result ≡ (field inet m).verdict s.now }
     ensures padded { Padded (width inet) result }

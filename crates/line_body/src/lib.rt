@@ -1,4 +1,5 @@
 // A version 1 line behind "TCP" or "UNKNOWN". Each field is read at its place in the bytes, and the next one stands behind it.
+// (The bytes and the place are two arguments: a type for both is no plainer, since each clause speaks of the bytes from the place on, `drop at s.now`.)
 // No public function has a `requires`.
 #![tactic(auto)]
 
@@ -101,7 +102,7 @@ fn from_space(s: &[u8], at: usize, inet: Inet) -> Result<Found<Caller>, Stop>
     from_source(s, end, inet)
 }
 
-// Behind "TCP": 4 or 6.
+// Behind "TCP": 4 or 6. (Public, as `from_unknown_end`: `line` goes on here.)
 #[tactic(auto, using(crate::proofs::Choices::family_six))]
 pub fn from_family(s: &[u8], at: usize) -> Result<Found<Caller>, Stop>
     ensures verdict { told_line result ≡ shift at ((families address4 address6).verdict (drop at s.now)) }

@@ -28,7 +28,8 @@ fn has_form(kind: Kind) -> bool
 }
 
 // What is answered for a line of n bytes and an output of this size: a kind without a form (10), unused bytes or ports that are not zero (11), an output
-// that is too short (14), or the length.
+// that is too short (14), or the length. (The record by value: of one behind a reference only the parts that a body reads are known, and `in_memory`
+// takes all.)
 fn check(from: Record, n: usize, room: usize) -> Result<usize, Fault>
     requires { n ≡ length (written_line from) }
     ensures { told_written result ≡ line_answer from room }

@@ -17,7 +17,7 @@ pub enum StoredVersion {
     Two,
 }
 
-// The second byte of a version's two.
+// The second byte of a version's two. (Not From, as `head_length` is not: a conversion to a number would not say which of the two it gives.)
 pub fn version_byte(version: StoredVersion) -> u8
     ensures { result ≡ version_byte version }
 {
@@ -80,7 +80,7 @@ impl From<Fault> for ConvertError {
     }
 }
 
-// The number of a flaw.
+// The number of a flaw. (Not From: docs/ARCHITECTURE.md names `flaw_number`, beside answer's, as the place of each further number.)
 pub fn flaw_number(flaw: Flaw) -> u8
     ensures { result ≡ flaw_number flaw }
 {

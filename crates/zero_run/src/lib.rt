@@ -20,6 +20,7 @@ fn zeros_from(group: u16, behind: usize) -> usize
 }
 
 // The longest run of zeros, the first of equals. The groups are gone through from the last to the first, so that of equals the first is kept.
+// (Groups by value: a rule of the project, docs/DECISIONS.md.)
 pub fn longest_run(groups: [u16; 8]) -> Option<Run>
     ensures longest { result ≡ some_run (longest_run groups) }
     ensures inside { IfSome result (λ run. run.before + run.count ≤ 8) }
