@@ -8,7 +8,7 @@ ghost use Rattle.address_text.specs.Addresses.{groups_text, groups_of, is_replac
 use draft::{Base, Draft};
 use zero_run::{Run, longest_run};
 
-// The address families that a text line has.
+// The address families that a text line has. (line_address has its own Inet: one for both would lie below both, with the methods of neither.)
 #[derive(Clone, Copy)]
 pub enum Inet {
     V4,

@@ -36,7 +36,7 @@ fn push_tcp_line(draft: &mut Draft, inet: Inet, from: &Record)
     draft.push_word(b"\r\n");
 }
 
-// The line of a record; nothing for a kind without a form.
+// The line of a record; nothing for a kind without a form. (No Display: std says what is written only of a call that succeeds, and this one cannot fail.)
 #[tactic(auto, using(draft::proofs::DraftLaws::adds_none), unfolding(crate::specs::LineText::written_line))]
 pub fn push_line(draft: &mut Draft, from: &Record)
     ensures { Adds draft.old draft.new (written_line from.now) }
