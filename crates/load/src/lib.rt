@@ -14,10 +14,9 @@ use record::{Checksum, Kind, Record, blank, block_length};
 use stored_form::{Flaw, StoredVersion, head_length, version_byte};
 
 fn has_mark(s: &[u8]) -> bool
-    requires { 6 ≤ length s.now }
     ensures { result ≡ has_mark s.now }
 {
-    s[0] == 0x43 && s[1] == 0x53 && s[2] == 0x52
+    s.starts_with(b"CSR")
 }
 
 fn has_version(s: &[u8], version: StoredVersion) -> bool

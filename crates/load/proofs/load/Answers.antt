@@ -1,5 +1,5 @@
 -- The bytes lent are numbers below 256, so that what is answered means what it should.
-use Rattle.std.proofs.Common.{◌≡◌, sym, subst}
+use Rattle.std.proofs.Common.{sym, subst}
 use Rattle.std.proofs.lemmas.Result.{err_from_is_err_and}
 use Rattle.exact.proofs.Parser.{bytes_of}
 use Rattle.stored_form.specs.Meaning.{LoadMeans}

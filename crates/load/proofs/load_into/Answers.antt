@@ -1,5 +1,5 @@
 -- The tests are made in the order of `load_answer`.
-use Rattle.std.proofs.Common.{ℕ, ◌≤◌, ◌≡◌, sym, ap, ◌∙◌, Bool, true, false, List, arith, length, get_or}
+use Rattle.std.proofs.Common.{ℕ, ◌≤◌, ◌≡◌, sym, ◌∙◌, Bool, true, false, List, arith, length, get_or}
 use Rattle.exact.specs.Pick.{pick}
 use Rattle.record.specs.declared.Kind.{Kind}
 use Rattle.record.specs.declared.Checksum.{Checksum}
@@ -8,7 +8,7 @@ use Rattle.kind_code.specs.Codes.{kind_of}
 use Rattle.stored_form.specs.declared.StoredVersion.{StoredVersion}
 use Rattle.stored_form.specs.Heads.{head_length, state_in}
 use Rattle.stored_form.proofs.HeadLaws.{six_at_least}
-use Rattle.stored_form.specs.Loading.{LoadAnswer, no_record, has_mark, has_version, load_block, load_answer}
+use Rattle.stored_form.specs.Loading.{no_record, has_mark, has_version, load_block, load_answer}
 use Rattle.stored_form.proofs.LoadLaws.{answer_short, answer_mark, answer_version, answer_code, answer_no_state, answer_state}
 use Rattle.load.proofs.load_into.Goals.{After-clean_state, After-has_mark, After-has_version, After-head_length, After-kind_of, After-state_in, Else-s-head_length, In-Some, In-Some-state_in}
 use Rattle.load.proofs.load_into.Goals as goal
@@ -34,9 +34,6 @@ module _ (c : Else-s-head_length) where
 
   six : 6 ≤ length (bytes (goal.at.Else-s-head_length c).After-head_length)
   six = let s = six_at_least (version (goal.at.Else-s-head_length c).After-head_length) in let l = long in omega arith
-
-pub has_mark-requires : goal.has_mark-requires
-has_mark-requires c = six c
 
 pub returns-then-not-has_mark : goal.returns-then-not-has_mark
 returns-then-not-has_mark c =
