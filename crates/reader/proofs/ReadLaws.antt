@@ -1,5 +1,5 @@
 -- The first byte tells the version.
-use Rattle.std.specs.Prelude.{◌≡◌, refl, Bool, true, false, List, [], ◌∷◌, ℕ, Some, None, slice_get}
+use Rattle.std.specs.Prelude.{◌≡◌, refl, Bool, true, false, List, [], ◌∷◌, ℕ, Some, None, slice_get, Result, Ok, IfOk}
 use Rattle.std.proofs.Common.{sym, ap, ◌∙◌, subst, eq-eqb, ne_eqb}
 use Rattle.exact.specs.Claim.{Verdict, more}
 use Rattle.exact.specs.Pick.{pick}
@@ -9,15 +9,18 @@ use Rattle.fields.proofs.BlockFields.{block}
 use Rattle.fields.specs.Exactness.{is_p, line_field}
 use Rattle.fields.proofs.HeaderVerdict.{verdict}
 use Rattle.fields.proofs.Exactness.{judges}
-use Rattle.answer.specs.declared.Seen.{Seen}
-use Rattle.answer.specs.Sight.{reading_of, caller_by, Sees}
-use Rattle.answer.proofs.StageLaws.{sees_as}
-use Rattle.reader.specs.Read.{Reads}
+use Rattle.answer.specs.declared.Stop.{Stop}
+use Rattle.answer.specs.declared.Sight.{Sight}
+use Rattle.answer.specs.Headers.{header_of, told_sight, PaddedIn}
+use Rattle.reader.specs.Read.{Reads, Sees}
 
-pub reads_as : {s : List ℕ} {v : Verdict Header} {x : Seen} → Sees s v x → v ≡ verdict s → Reads s (reading_of s x) × (x.caller ≡ caller_by (verdict s))
-reads_as {s} a e =
-    let here = sees_as a e in
-    (record { judged = subst (λ (v : Verdict Header). Judges v s) (sym here.answers.told) (judges s); answers = here.answers }, here.caller)
+-- what is seen, by its verdict
+pub sees_as : {s : List ℕ} (x : Result Sight Stop) → told_sight s x ≡ verdict s → IfOk x PaddedIn → Sees s x
+sees_as {s} x e p = record { judged = subst (λ (v : Verdict Header). Judges v s) (sym e) (judges s); answers = e; padded = p }
+
+-- a header with its record
+pub with_record : {s : List ℕ} (x : Sight) → Sees s (Ok x) → Reads s (Ok (header_of s x))
+with_record x h = record { judged = h.judged; answers = h.answers }
 
 pub none_yet : (s : List ℕ) → None ≡ slice_get s 0 → more 15 ≡ verdict s
 none_yet [] e = refl

@@ -1,22 +1,14 @@
--- What the reader promises: demand 3 of document 01.
+-- What the reader promises: the one answer that the claim allows (`Judges`), for all bytes.
 use Rattle.std.specs.Prelude.{◌≡◌, List, ℕ, Result, IfOk}
 use Rattle.header.specs.Demand.{Judges}
 use Rattle.fields.proofs.HeaderVerdict.{verdict}
-use Rattle.answer.specs.declared.Reading.{Reading}
-use Rattle.answer.specs.Answers.{Answers, told_reading}
 use Rattle.answer.specs.declared.Stop.{Stop}
 use Rattle.answer.specs.declared.Sight.{Sight}
 use Rattle.answer.specs.declared.Header.{Header}
 use Rattle.answer.specs.Headers.{told_header, told_sight, PaddedIn}
 
--- the reading of the bytes s: its answer is the one that the claim allows, and equals the verdict function's; the record is
--- unspecified where no header is accepted
-pub record Reads (s : List ℕ) (r : Reading) : Type 0 where
-  pub judged : Judges (told_reading s r) s
-  pub answers : Answers s (verdict s) r
-
--- what is read of the bytes s: the one answer that the claim allows, which is the verdict function's
-pub record ReadsHeader (s : List ℕ) (r : Result Header Stop) : Type 0 where
+-- what is read of the bytes s: its answer is the one that the claim allows, and equals the verdict function's
+pub record Reads (s : List ℕ) (r : Result Header Stop) : Type 0 where
   pub judged : Judges (told_header s r) s
   pub answers : told_header s r ≡ verdict s
 
