@@ -1,4 +1,3 @@
 pub mod OneSight
 pub mod OutputLaws
-pub mod StageLaws
 pub mod PlaceLaws

@@ -1,17 +1,12 @@
 -- Lemmas on what specs/OneSight.antt defines.
 use Rattle.std.specs.Prelude.{◌≡◌, refl, List, ℕ}
-use Rattle.std.proofs.Common.{sym, ap, ap₂, ◌∙◌}
+use Rattle.std.proofs.Common.{sym, ap, ◌∙◌}
 use Rattle.exact.specs.Claim as Claim
 use Rattle.header.specs.Header.{Header}
 use Rattle.answer.specs.declared.Refusal.{Refusal}
 use Rattle.answer.specs.declared.Refusal.TheVariants.{Start, Word, Address, Port, End, Command, Family, Length, Tlv}
-use Rattle.answer.specs.declared.Verdict.{Verdict}
-use Rattle.answer.specs.declared.Verdict.TheVariants.{Accepted, More, Refused}
-use Rattle.answer.specs.declared.Reading.{Reading}
 use Rattle.answer.specs.declared.Caller.{Caller}
-use Rattle.answer.specs.declared.Seen.{Seen}
-use Rattle.answer.specs.Answers.{number_of, told_verdict}
-use Rattle.answer.specs.Sight.{reading_of, caller_by, Sees}
+use Rattle.answer.specs.Answers.{number_of}
 use Rattle.std.specs.Prelude.{Result, Ok, Err, IfOk}
 use Rattle.answer.specs.declared.Found.{Found}
 use Rattle.answer.specs.declared.Stop.{Stop}
@@ -19,7 +14,7 @@ use Rattle.answer.specs.declared.Stop.TheVariants as stop
 use Rattle.answer.specs.declared.Sight.{Sight}
 use Rattle.answer.specs.declared.Sight.TheVariants.{Line, Block}
 use Rattle.answer.specs.Headers.{told_sight, PaddedIn}
-use Rattle.answer.specs.OneSight.{refusal_of, verdict_by, sight_by}
+use Rattle.answer.specs.OneSight.{refusal_of, sight_by}
 
 refusal_again : (k : Refusal) → refusal_of (number_of k) ≡ k
 refusal_again Start = refl
@@ -32,17 +27,6 @@ refusal_again Family = refl
 refusal_again Length = refl
 refusal_again Tlv = refl
 
-verdict_again : (s : List ℕ) (w : Verdict) (r : Reading) → verdict_by (told_verdict s w r) ≡ w
-verdict_again s (Accepted n v) r = refl
-verdict_again s (More n) r = refl
-verdict_again s (Refused k p) r = ap (λ (j : Refusal). Refused j p) (refusal_again k)
-
--- what is seen is this, and nothing else
-pub sees_one : (s : List ℕ) (v : Claim.Verdict Header) (x : Seen) → Sees s v x → x ≡ record { verdict = verdict_by v; caller = caller_by v }
-sees_one s v x sees =
-    ap₂ (λ (w : Verdict) (c : Caller). record { verdict = w; caller = c })
-    (sym (verdict_again s x.verdict (reading_of s x)) ∙ ap verdict_by sees.answers.told) sees.caller
-
 sight_again : (s : List ℕ) (x : Result Sight Stop) → IfOk x PaddedIn → x ≡ sight_by (told_sight s x)
 sight_again s (Ok (Line f)) padded = ap (λ (c : Caller). Ok (Line (record { value = c; end = f.end }))) padded
 sight_again s (Ok (Block f)) padded = refl
@@ -50,5 +34,5 @@ sight_again s (Err (stop.More n)) padded = refl
 sight_again s (Err (stop.Refused k p)) padded = ap (λ (j : Refusal). Err (stop.Refused j p)) (sym (refusal_again k))
 
 -- what is seen is this, and nothing else
-pub one_sight : (s : List ℕ) (v : Claim.Verdict Header) (x : Result Sight Stop) → told_sight s x ≡ v → IfOk x PaddedIn → x ≡ sight_by v
-one_sight s v x told padded = sight_again s x padded ∙ ap sight_by told
+pub sees_one : (s : List ℕ) (v : Claim.Verdict Header) (x : Result Sight Stop) → told_sight s x ≡ v → IfOk x PaddedIn → x ≡ sight_by v
+sees_one s v x told padded = sight_again s x padded ∙ ap sight_by told

@@ -1,18 +1,11 @@
 -- The readers' and the writers' answers in document 01's terms.
 use Rattle.std.specs.Prelude.{◌≡◌, Bool, true, false, List, [], ◌++◌, ℕ, ◌+◌, eqb, leb, ltb, take, drop, Result, Ok, Err}
-use Rattle.exact.specs.Claim as Claim
-use Rattle.exact.specs.Claim.{accepted, more, refused}
 use Rattle.exact.specs.Pick.{pick}
 use Rattle.record.specs.declared.Kind.{Kind}
 use Rattle.record.specs.declared.Kind.TheVariants.{Local, Unspecified, Ip4, Ip6, Unix}
 use Rattle.record.specs.Kinds.{block_length}
-use Rattle.record.specs.Records.{bare}
-use Rattle.header.specs.Header.{Header}
 use Rattle.answer.specs.declared.Refusal.{Refusal}
 use Rattle.answer.specs.declared.Refusal.TheVariants.{Start, Word, Address, Port, End, Command, Family, Length, Tlv}
-use Rattle.answer.specs.declared.Verdict.{Verdict}
-use Rattle.answer.specs.declared.Verdict.TheVariants.{Accepted, More, Refused}
-use Rattle.answer.specs.declared.Reading.{Reading}
 use Rattle.answer.specs.declared.Fault.{Fault}
 use Rattle.answer.specs.declared.Fault.TheVariants.{Form, Unused, Area, Size, Room, Version, State}
 
@@ -67,24 +60,3 @@ block_area (Unix t) f = drop (16 + block_length (Unix t)) f
 
 abbrev pub area_of : ℕ → Kind → List ℕ → List ℕ
 area_of version kind f = pick (eqb version 2) (block_area kind f) []
-
--- the answer to the bytes s as a verdict on them
-abbrev pub told_verdict : List ℕ → Verdict → Reading → Claim.Verdict Header
-told_verdict s (Accepted n v) r =
-    accepted (record { «record» = r.record; version = v; area = area_of v r.record.kind (take n s) }) n
-told_verdict s (More n) r = more n
-told_verdict s (Refused k p) r = refused (number_of k) p
-
-abbrev pub told_reading : List ℕ → Reading → Claim.Verdict Header
-told_reading s r = told_verdict s r.verdict r
-
--- where no header is accepted, the record is unspecified
-abbrev pub BareUnless : Verdict → Reading → Type 0
-BareUnless (Accepted n v) r = Unit {0}
-BareUnless (More n) r = r.record ≡ bare Unspecified
-BareUnless (Refused k p) r = r.record ≡ bare Unspecified
-
--- the answer to the bytes s is the verdict v
-pub record Answers (s : List ℕ) (v : Claim.Verdict Header) (r : Reading) : Type 0 where
-  pub told : told_reading s r ≡ v
-  pub unused : BareUnless r.verdict r

@@ -6,8 +6,6 @@ use Rattle.exact.specs.Pick.{pick}
 use Rattle.header.specs.Header.{Header}
 use Rattle.answer.specs.declared.Refusal.{Refusal}
 use Rattle.answer.specs.declared.Refusal.TheVariants.{Start, Word, Address, Port, End, Command, Family, Length, Tlv}
-use Rattle.answer.specs.declared.Verdict.{Verdict}
-use Rattle.answer.specs.declared.Verdict.TheVariants.{Accepted, More, Refused}
 use Rattle.answer.specs.declared.Stop.{Stop}
 use Rattle.answer.specs.declared.Stop.TheVariants as stop
 use Rattle.answer.specs.declared.Sight.{Sight}
@@ -17,12 +15,6 @@ use Rattle.answer.specs.Sight.{caller_of}
 -- the refusal of a number from 1 to 9
 abbrev pub refusal_of : ℕ → Refusal
 refusal_of n = get_or (Start ∷ Word ∷ Address ∷ Port ∷ End ∷ Command ∷ Family ∷ Length ∷ Tlv ∷ []) (n - 1) Start
-
--- the verdict as a reader answers it
-abbrev pub verdict_by : Claim.Verdict Header → Verdict
-verdict_by (accepted h n) = Accepted n h.version
-verdict_by (more n) = More n
-verdict_by (refused k p) = Refused (refusal_of k) p
 
 -- what is seen, by the verdict
 abbrev pub sight_by : Claim.Verdict Header → Result Sight Stop

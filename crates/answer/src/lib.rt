@@ -1,16 +1,15 @@
-// What readers and writers answer, and the answers without a header. No public function has a `requires`.
+// What readers and writers answer, and the numbers of that. No public function has a `requires`.
 #![tactic(auto)]
 
-ghost use Rattle.std.specs.Prelude.{◌≡◌, List, ℕ};
-ghost use Rattle.exact.specs.Claim.{more as more_of, refused as refused_of};
+ghost use Rattle.std.specs.Prelude.{◌≡◌};
 ghost use Rattle.answer.specs.Answers.{number_of, fault_number};
-ghost use Rattle.answer.specs.Sight.{kind_only, in_bytes, Sees};
+ghost use Rattle.answer.specs.Sight.{kind_only};
 ghost use Rattle.answer.specs.Places.{placed};
 
 use exact::Scan;
 use record::{Kind, Record};
 
-// The field that holds the first dead byte: document 01's numbers 1 to 9.
+// The field that holds the first byte which rules a header out: numbers 1 to 9.
 #[derive(Clone, Copy)]
 pub enum Refusal {
     Start,
@@ -24,25 +23,7 @@ pub enum Refusal {
     Tlv,
 }
 
-// What the bytes so far are.
-#[derive(Clone, Copy)]
-pub enum Verdict {
-    // They begin with a whole header of this length and version.
-    Accepted { length: usize, version: u8 },
-    // They do not yet, but some continuation does, and so few further bytes could make a whole header.
-    More { least: usize },
-    // None does, and the byte at this place is the first that rules it out.
-    Refused { refusal: Refusal, place: usize },
-}
-
-// A verdict, and the header's record; where no header is accepted, the record is unspecified.
-#[derive(Clone, Copy)]
-pub struct Reading {
-    pub verdict: Verdict,
-    pub record: Record,
-}
-
-// Why a writer left the output as it was: document 01's numbers 10 to 14, and document 02's 20 and 24.
+// Why a writer left the output as it was: numbers 10 to 14, 20 and 24.
 #[derive(Clone, Copy)]
 pub enum Fault {
     Form,
@@ -62,14 +43,6 @@ pub struct Caller {
     pub destination: [u8; 16],
     pub source_port: u16,
     pub destination_port: u16,
-}
-
-// What is seen in the bytes read, before a record is made of it. Of a version 2 header the caller has only the kind: its addresses stand in
-// the bytes themselves, from 16 on.
-#[derive(Clone, Copy)]
-pub struct Seen {
-    pub verdict: Verdict,
-    pub caller: Caller,
 }
 
 // Why the bytes so far are no whole header.
@@ -142,66 +115,38 @@ pub fn of_kind(kind: Kind) -> Caller
     }
 }
 
-pub fn more(least: usize) -> Seen
-    ensures { (s : List ℕ) → Sees s (more_of least) result }
-{
-    Seen {
-        verdict: Verdict::More { least },
-        caller: of_kind(Kind::Unspecified),
+// The number of a refusal.
+impl From<Refusal> for u8 {
+    ghost from_gives = { λ refusal n. n ≡ number_of refusal };
+
+    fn from(refusal: Refusal) -> u8 {
+        match refusal {
+            Refusal::Start => 1,
+            Refusal::Word => 2,
+            Refusal::Address => 3,
+            Refusal::Port => 4,
+            Refusal::End => 5,
+            Refusal::Command => 6,
+            Refusal::Family => 7,
+            Refusal::Length => 8,
+            Refusal::Tlv => 9,
+        }
     }
 }
 
-pub fn refused(refusal: Refusal, place: usize) -> Seen
-    ensures { (s : List ℕ) → Sees s (refused_of (number_of refusal) place) result }
-{
-    Seen {
-        verdict: Verdict::Refused { refusal, place },
-        caller: of_kind(Kind::Unspecified),
-    }
-}
+// The number of a fault.
+impl From<Fault> for u8 {
+    ghost from_gives = { λ fault n. n ≡ fault_number fault };
 
-// Document 01's number of a refusal.
-pub fn refusal_number(refusal: Refusal) -> u8
-    ensures { result ≡ number_of refusal }
-{
-    match refusal {
-        Refusal::Start => 1,
-        Refusal::Word => 2,
-        Refusal::Address => 3,
-        Refusal::Port => 4,
-        Refusal::End => 5,
-        Refusal::Command => 6,
-        Refusal::Family => 7,
-        Refusal::Length => 8,
-        Refusal::Tlv => 9,
-    }
-}
-
-// The papers' number of a fault.
-pub fn fault_number(fault: Fault) -> u8
-    ensures { result ≡ fault_number fault }
-{
-    match fault {
-        Fault::Form => 10,
-        Fault::Unused => 11,
-        Fault::Area => 12,
-        Fault::Size => 13,
-        Fault::Room => 14,
-        Fault::Version => 20,
-        Fault::State => 24,
-    }
-}
-
-// Whether the addresses stand in the bytes read.
-pub fn in_bytes(verdict: Verdict) -> bool
-    ensures { result ≡ in_bytes verdict }
-{
-    match verdict {
-        Verdict::Accepted { length: _, version } => version == 2,
-        Verdict::More { least: _ } => false,
-        Verdict::Refused {
-            refusal: _,
-            place: _,
-        } => false,
+    fn from(fault: Fault) -> u8 {
+        match fault {
+            Fault::Form => 10,
+            Fault::Unused => 11,
+            Fault::Area => 12,
+            Fault::Size => 13,
+            Fault::Room => 14,
+            Fault::Version => 20,
+            Fault::State => 24,
+        }
     }
 }
