@@ -1,5 +1,5 @@
 -- Lemmas on what specs/Joining.antt defines.
-use Rattle.std.specs.Prelude.{◌≡◌, refl, Bool, true, false, List, [], ◌∷◌, ◌++◌, ℕ, ◌+◌, ◌-◌, ◌≤◌, ◌<◌, ltb, leb, length}
+use Rattle.std.specs.Prelude.{◌≡◌, refl, Bool, true, false, List, [], ◌∷◌, ◌++◌, ℕ, ◌+◌, ◌-◌, ◌≤◌, ◌<◌, ltb, leb, length, Result}
 use Rattle.std.proofs.Common.{sym, ap, ap₂, ◌∙◌, append-nil, append_assoc, arith, leb-true}
 use Rattle.exact.specs.Pick.{pick}
 use Rattle.tlv.specs.Tlv.{Tlv, written, Area, WellFormed}
@@ -11,6 +11,7 @@ use Rattle.lookup.specs.Lookup.{Finding, found, absent, gave_up, refused, Lookup
 use Rattle.lookup.proofs.LookupLemmas.{lookup_listed, lookup_refused}
 use Rattle.lookup.proofs.JoinedLists.{one_in_first, none_examined, none_in_first}
 use Rattle.lookup.specs.declared.Examined.{Examined}
+use Rattle.tlv_step.specs.declared.IllFormed.{IllFormed}
 use Rattle.lookup.specs.Joining.{Joins, behind, first_or, joined}
 
 join_area : (f g : List ℕ) (x : WellFormed f) (y : WellFormed g) → Area (f ++ g) (x.0 ++ y.0)
@@ -102,14 +103,14 @@ other_if_absent gave_up first one another e = refl
 other_if_absent (refused number) first one another e = refl
 
 -- so of calls of `lookup`: in the first, where that is absent in the second with what is left of the limit, and in the join
-pub calls_join : (f g : List ℕ) → WellFormed f → WellFormed g → (wanted limit : ℕ) (r s t : Examined)
-    → LooksUp f wanted limit r → (told_finding r.answer ≡ absent → LooksUp g wanted (limit - r.count) s) → LooksUp (f ++ g) wanted limit t
-    → told_lookup t ≡ first_or (told_finding r.answer) (told_lookup r) (behind r.count (length f) (told_lookup s))
+pub calls_join : (f g : List ℕ) → WellFormed f → WellFormed g → (wanted limit : ℕ) (r s t : Result Examined IllFormed)
+    → LooksUp f wanted limit r → (told_finding r ≡ absent → LooksUp g wanted (limit - (told_lookup r).count) s) → LooksUp (f ++ g) wanted limit t
+    → told_lookup t ≡ first_or (told_finding r) (told_lookup r) (behind (told_lookup r).count (length f) (told_lookup s))
 calls_join f g x y wanted limit r s t in-first in-second in-join =
     in-join.answers
     ∙ lookup_join f g x y wanted limit
     ∙ ap (λ (first : Lookup). joined first (length f) (lookup_of g wanted) limit) (sym in-first.answers)
-    ∙ other_if_absent (told_finding r.answer) (told_lookup r) _ _ (λ e. ap (behind r.count (length f)) (sym (in-second e).answers))
+    ∙ other_if_absent (told_finding r) (told_lookup r) _ _ (λ e. ap (behind (told_lookup r).count (length f)) (sym (in-second e).answers))
 
 -- ── 5. "If the first part and the join are well-formed, so is the second" ──
 pub second_well_formed : (f g : List ℕ) → WellFormed f → WellFormed (f ++ g) → WellFormed g

@@ -70,7 +70,7 @@ none_passed front rest wanted limit none h =
     ∙ ap (λ (r : Lookup). joined r (length (written front)) (lookup_in rest wanted) limit) (lookup_absent front wanted limit none h)
 
 module _ (front : List Tlv) (t : Tlv) (rest : List Tlv) where
-  lookup_here : (m : ℕ) → lookup_in (t ∷ rest) t.type (suc m) ≡ found_at 1 3 (length t.value)
+  pub lookup_here : (m : ℕ) → lookup_in (t ∷ rest) t.type (suc m) ≡ found_at 1 3 (length t.value)
   lookup_here m = simp (eq-eqb t.type t.type refl, leb-suc-suc 0 (length rest), leb-suc-suc 0 m, leb-zero (length rest), leb-zero m)
 
   pub first_counts : (limit : ℕ) → index_of_first t.type front ≡ length front → length front < limit

@@ -1,4 +1,4 @@
-pub mod Turn
+pub mod Seek
 pub mod First
 pub mod JoinedLists
 pub mod Joining

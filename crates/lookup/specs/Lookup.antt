@@ -1,12 +1,13 @@
--- Lookup in a TLV area: document 01, "Looking into TLVs".
-use Rattle.std.specs.Prelude.{◌≡◌, List, [], ◌∷◌, ℕ, zero, suc, ◌+◌, ◌≤◌, eqb, ltb, leb, length, take}
+-- Lookup in a TLV area.
+use Rattle.std.specs.Prelude.{◌≡◌, List, [], ◌∷◌, ℕ, zero, suc, ◌+◌, ◌≤◌, eqb, ltb, leb, length, take, Result, Ok, Err}
 use Rattle.exact.specs.Pick.{pick}
 use Rattle.tlv.specs.Tlv.{Tlv, written}
 use Rattle.tlv.specs.Listed.{tlvs_of}
 use Rattle.tlv.specs.Test.{well_formed}
 use Rattle.lookup.specs.declared.Answer.{Answer}
-use Rattle.lookup.specs.declared.Answer.TheVariants.{Found, Absent, GaveUp, IllFormed}
+use Rattle.lookup.specs.declared.Answer.TheVariants.{Found, Absent, GaveUp}
 use Rattle.lookup.specs.declared.Examined.{Examined}
+use Rattle.tlv_step.specs.declared.IllFormed.{IllFormed}
 
 -- what a lookup finds out: "found", "absent", "gave up", or a number
 pub data Finding : Type 0 where
@@ -22,16 +23,6 @@ pub record Lookup : Type 0 where
   pub start : ℕ
   pub length : ℕ
 
--- "this paper's number and values for each of its cases"
-abbrev pub told_finding : Answer → Finding
-told_finding Found = found
-told_finding Absent = absent
-told_finding GaveUp = gave_up
-told_finding IllFormed = refused 12
-
-abbrev pub told_lookup : Examined → Lookup
-told_lookup r = record { outcome = told_finding r.answer; count = r.count; start = r.start; length = r.length }
-
 -- "Found also gives where the value starts in the area and its length"
 abbrev pub found_at : ℕ → ℕ → ℕ → Lookup
 found_at count start size = record { outcome = found; count = count; start = start; length = size }
@@ -39,6 +30,23 @@ found_at count start size = record { outcome = found; count = count; start = sta
 -- "the other answers give 0 for both"
 abbrev pub without : Finding → ℕ → Lookup
 without outcome count = record { outcome = outcome; count = count; start = 0; length = 0 }
+
+-- "An ill-formed area: 12, count 0"
+abbrev pub ill_formed : Lookup
+ill_formed = without (refused 12) 0
+
+-- the code's answer, by its number and values
+abbrev pub told_answer : (count : ℕ) → Answer → Lookup
+told_answer count (Found p) = found_at count p.start p.size
+told_answer count Absent = without absent count
+told_answer count GaveUp = without gave_up count
+
+abbrev pub told_lookup : Result Examined IllFormed → Lookup
+told_lookup (Ok r) = told_answer r.count r.answer
+told_lookup (Err e) = ill_formed
+
+abbrev pub told_finding : Result Examined IllFormed → Finding
+told_finding r = (told_lookup r).outcome
 
 -- the index of "the first TLV of that type"; N, "if there is none"
 abbrev pub index_of_first : ℕ → List Tlv → ℕ
@@ -66,15 +74,11 @@ lookup_by i tlvs n m =
 abbrev pub lookup_in : List Tlv → ℕ → ℕ → Lookup
 lookup_in tlvs wanted limit = lookup_by (index_of_first wanted tlvs) tlvs (length tlvs) limit
 
--- "An ill-formed area: 12, count 0"
-abbrev pub ill_formed : Lookup
-ill_formed = without (refused 12) 0
-
 -- what a lookup answers for every area
 abbrev pub lookup_of : List ℕ → ℕ → ℕ → Lookup
 lookup_of area wanted limit = pick (well_formed area) (lookup_in (tlvs_of area) wanted limit) ill_formed
 
 -- what `lookup` promises: that answer, and that it "never examines more than the limit"
-pub record LooksUp (area : List ℕ) (wanted limit : ℕ) (r : Examined) : Type 0 where
+pub record LooksUp (area : List ℕ) (wanted limit : ℕ) (r : Result Examined IllFormed) : Type 0 where
   pub answers : told_lookup r ≡ lookup_of area wanted limit
-  pub within : r.count ≤ limit
+  pub within : (told_lookup r).count ≤ limit

@@ -1,9 +1,12 @@
-use Rattle.std.proofs.Common.{◌-◌, length}
-use Rattle.lookup.proofs.Turn.{Left}
+use Rattle.std.proofs.Common.{◌≡◌, ◌≤◌}
+use Rattle.tlv_step.specs.Left.{tlvs_left}
+use Rattle.lookup.specs.Lookup.{lookup_of}
+use Rattle.lookup.proofs.Seek.{seek}
 use Rattle.lookup.proofs.lookup.Given as goal
 
-abbrev pub invariant-loop-at : goal.invariant-loop-at
-invariant-loop-at l = Left l.area l.wanted l.limit l.at l.count
-
-abbrev pub decreases-loop-at : goal.decreases-loop-at
-decreases-loop-at l = length l.area - l.at
+abbrev pub invariant-loop-tlv : goal.invariant-loop-tlv
+invariant-loop-tlv l =
+    record {
+      sought : seek l.wanted l.limit l.count (tlvs_left l.tlv-iterator) ≡ lookup_of l.area l.wanted l.limit;
+      within : l.count ≤ l.limit;
+    }
