@@ -10,9 +10,10 @@ ghost use Rattle.lookup.specs.Lookup.{told_finding};
 ghost use Rattle.numbers.specs.Numbers.{numbers_size, tells_one, four_of, told_of, room_beside, written_number, numbers_after, load_number, lookup_number};
 
 use answer::{Fault, Verdict, fault_number, refusal_number};
-use lookup::Answer;
+use lookup::{Answer, Examined};
 use record::{Kind, Record};
 use stored_form::{ConvertError, Flaw, flaw_number};
+use tlv_step::IllFormed;
 
 pub const NUMBERS: usize = 4;
 
@@ -127,13 +128,15 @@ pub fn outcome_number(loaded: &Result<Record, Flaw>) -> u32
 }
 
 // The number of a lookup's answer. A function and no From: the answer and the number are types of other crates.
-pub fn lookup_number(answer: Answer) -> u32
-    ensures { result ≡ lookup_number (told_finding answer) }
+pub fn lookup_number(looked_up: Result<Examined, IllFormed>) -> u32
+    ensures { result ≡ lookup_number (told_finding looked_up) }
 {
-    match answer {
-        Answer::Found => 0,
-        Answer::Absent => 253,
-        Answer::GaveUp => 254,
-        Answer::IllFormed => 12,
+    match looked_up {
+        Ok(Examined { answer, .. }) => match answer {
+            Answer::Found(_) => 0,
+            Answer::Absent => 253,
+            Answer::GaveUp => 254,
+        },
+        Err(IllFormed) => 12,
     }
 }

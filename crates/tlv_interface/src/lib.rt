@@ -4,30 +4,38 @@
 ghost use Rattle.std.specs.Prelude.{◌≡◌, ℕ, drop};
 ghost use Rattle.tlv.specs.Tlv.{WellFormed};
 ghost use Rattle.tlv_step.specs.Step.{told_step, head_at, step_at, place_after};
-ghost use Rattle.tlv_interface.specs.TlvInterface.{LookupTold, StepTold};
+ghost use Rattle.lookup.specs.Lookup.{told_lookup};
+ghost use Rattle.tlv_interface.specs.TlvInterface.{lookup_numbers, LookupTold, StepTold};
 
-use numbers::{NUMBERS, lookup_number, put_numbers};
-use tlv_step::{IllFormed, Tlv, head_at, place_of};
+use lookup::{Answer, Examined, lookup};
+use numbers::{NUMBERS, lookup_number, put_all, put_numbers};
+use tlv_step::{IllFormed, Part, Tlv, head_at, place_of};
 use walker::Walker;
+
+// What was looked up, as numbers; where nothing is found, 0 for a start and a length.
+fn numbers_of(looked_up: Result<Examined, IllFormed>, wanted: u8) -> [u64; 4]
+    ensures { result ≡ lookup_numbers wanted (told_lookup looked_up) }
+{
+    match looked_up {
+        Ok(Examined { answer, count }) => match answer {
+            Answer::Found(Part { start, size }) => [count as u64, wanted as u64, start as u64, size as u64],
+            Answer::Absent | Answer::GaveUp => [count as u64, wanted as u64, 0, 0],
+        },
+        Err(IllFormed) => [0, wanted as u64, 0, 0],
+    }
+}
 
 // Looks for the first TLV of a type in a TLV area, of which at most as many TLVs are examined as the limit says. With room for 4 numbers
 // they are told; else nothing is written.
 pub fn look_up(area: &[u8], wanted: u8, limit: usize, numbers: &mut [u64]) -> u32
     ensures { LookupTold area.now wanted limit numbers.old result numbers.new }
 {
-    let examined = lookup::lookup(area, wanted, limit);
-    let answer = examined.answer;
     if numbers.len() < NUMBERS {
         return 14;
     }
-    put_numbers(
-        numbers,
-        examined.count as u64,
-        wanted as u64,
-        examined.start as u64,
-        examined.length as u64,
-    );
-    lookup_number(answer)
+    let looked_up = lookup(area, wanted, limit);
+    put_all(&numbers_of(looked_up, wanted), numbers);
+    lookup_number(looked_up)
 }
 
 // Tells what a step shows, and the place behind it. With room for 4 numbers they are told; else nothing is written.

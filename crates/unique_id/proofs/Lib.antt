@@ -1,1 +1,2 @@
 pub mod IdLaws
+pub mod Counted

@@ -1,4 +1,4 @@
--- The unique ID that a TLV area gives (document 02, K14): TLV 0x05, the specification's PP2_TYPE_UNIQUE_ID.
+-- The unique ID that a TLV area gives : TLV 0x05, the specification's PP2_TYPE_UNIQUE_ID.
 use Rattle.std.specs.Prelude.{Bool, ◌&&◌, List, ℕ, eqb, leb, Option, Some, None}
 use Rattle.exact.specs.Pick.{pick}
 use Rattle.tlv.specs.Tlv.{Tlv}
@@ -6,13 +6,7 @@ use Rattle.tlv.specs.Test.{well_formed}
 use Rattle.tlv.specs.Listed.{tlvs_of}
 use Rattle.lookup.specs.Lookup.{index_of_first, start_of, length_of}
 use Rattle.tlv_count.specs.Count.{count_of}
-use Rattle.unique_id.specs.declared.UniqueId.{UniqueId}
-use Rattle.unique_id.specs.declared.UniqueId.TheVariants.{Value as ValueAt, Missing}
-
--- where a value starts in the area, and its length
-pub record Value : Type 0 where
-  pub start : ℕ
-  pub size : ℕ
+pub use Rattle.tlv_step.specs.declared.Part.{Part as Value}
 
 -- the value of the first TLV 0x05
 abbrev pub first_value : List Tlv → Value
@@ -35,7 +29,3 @@ id_of area = first_value (tlvs_of area)
 
 abbrev pub id_in : List ℕ → Option Value
 id_in area = pick (identified area) (Some (id_of area)) None
-
-abbrev pub told_id : UniqueId → Option Value
-told_id (ValueAt start size) = Some (record { start = start; size = size })
-told_id Missing = None

@@ -1,49 +1,37 @@
-// The unique ID of a TLV area (document 02, K14): its only TLV 0x05. No public function has a `requires`.
+// The unique ID of a TLV area: its only TLV 0x05, the specification's PP2_TYPE_UNIQUE_ID. No public function has a `requires`.
 #![tactic(auto)]
 
-ghost use Rattle.std.specs.Prelude.{◌≡◌};
-ghost use Rattle.unique_id.specs.UniqueId.{told_id, id_in};
+ghost use Rattle.std.specs.Prelude.{◌≡◌, Some, None};
+ghost use Rattle.exact.specs.Pick.{pick};
+ghost use Rattle.unique_id.specs.UniqueId.{is_sized, id_in};
 
-use lookup::lookup;
-use tlv_count::{Count, count_of};
+use lookup::{Answer, lookup};
+use tlv_count::count_of;
+use tlv_step::Part;
 
 // The type of the TLV.
 const UNIQUE_ID: u8 = 0x05;
 
-// Where the value starts in the area, and its length.
-#[derive(Drop)]
-pub enum UniqueId {
-    Value { start: usize, size: usize },
-    // There is not exactly one of 1 to 128 bytes.
-    Missing,
+// A value of 1 to 128 bytes.
+fn if_sized(value: Part) -> Option<Part>
+    ensures { result ≡ pick (is_sized value) (Some value) None }
+{
+    let sized = 1 <= value.size && value.size <= 128;
+    if sized { Some(value) } else { None }
 }
 
-// The unique ID of an area; missing where TLVs do not fill it.
-pub fn unique_id(area: &[u8]) -> UniqueId
-    ensures { told_id result ≡ id_in area.now }
+/// The unique ID of an area, as a part of it; none where TLVs do not fill it, or there is not exactly one of 1 to 128 bytes.
+pub fn unique_id(area: &[u8]) -> Option<Part>
+    ensures { result ≡ id_in area.now }
 {
-    match count_of(area, UNIQUE_ID) {
-        Count::Tlvs(n) => {
-            if n < 1 {
-                return UniqueId::Missing;
-            }
-            if 1 < n {
-                return UniqueId::Missing;
-            }
-            let found = lookup(area, UNIQUE_ID, area.len());
-            let size = found.length;
-            if size < 1 {
-                return UniqueId::Missing;
-            }
-            let long = 128 < size;
-            if long {
-                return UniqueId::Missing;
-            }
-            UniqueId::Value {
-                start: found.start,
-                size,
-            }
-        }
-        Count::IllFormed => UniqueId::Missing,
+    let count = count_of(area, UNIQUE_ID).ok()?;
+    if count != 1 {
+        return None;
+    }
+    let examined = lookup(area, UNIQUE_ID, area.len()).ok()?;
+    match examined.answer {
+        Answer::Found(value) => if_sized(value),
+        Answer::Absent => None,
+        Answer::GaveUp => None,
     }
 }
