@@ -1,5 +1,5 @@
 -- The first 0x03 TLV of an area: how a lookup finds it, and what it says of the header.
-use Rattle.std.specs.Prelude.{Option, Some, None as nothing}
+use Rattle.std.specs.Prelude.{Result, Option, Some, None as nothing}
 use mathlib.Core.Path.{◌≡◌, refl, sym, ap, ap₂, ◌∙◌, subst}
 use mathlib.Core.Bool.{Bool, true, false}
 use mathlib.Core.List.{List, [], ◌∷◌, ◌++◌, append_assoc}
@@ -22,6 +22,7 @@ use Rattle.tlv.proofs.Listed.{tlvs_of_lem, few}
 use Rattle.tlv.proofs.Heads.{head_rest}
 use Rattle.crc.specs.Crc.{checksum, stored, cleared}
 use Rattle.lookup.specs.declared.Examined.{Examined}
+use Rattle.tlv_step.specs.declared.IllFormed.{IllFormed}
 use Rattle.lookup.specs.Lookup.{found, absent, Lookup, found_at, without, told_finding, told_lookup, index_of_first, lookup_in, ill_formed, LooksUp}
 use Rattle.lookup.proofs.LookupLemmas.{lookup_listed}
 use Rattle.lookup.proofs.Laws.{first_counts}
@@ -65,7 +66,7 @@ module _ (type : ℕ) where
           })
 
 -- ── what a lookup answers ──
-module _ (area : List ℕ) (tlvs : List Tlv) (a : Area area tlvs) (r : Examined) (told : told_lookup r ≡ lookup_in tlvs 0x03 (length area)) where
+module _ (area : List ℕ) (tlvs : List Tlv) (a : Area area tlvs) (r : Result Examined IllFormed) (told : told_lookup r ≡ lookup_in tlvs 0x03 (length area)) where
   enough : length tlvs ≤ length area
   enough = let n = few tlvs in let e = ap length a.0 in omega arith
 
@@ -85,14 +86,14 @@ module _ (area : List ℕ) (tlvs : List Tlv) (a : Area area tlvs) (r : Examined)
       (ap (λ (w : ℕ). index_of_first w f.before) f.is ∙ first_at_end 0x03 f.before f.none) size
 
   -- where it finds none there is none
-  absent_state : (header : List ℕ) → (told_finding r.answer ≡ found → ⊥) → state_in header (tlvs_of area) ≡ Some Absent
+  absent_state : (header : List ℕ) → (told_finding r ≡ found → ⊥) → state_in header (tlvs_of area) ≡ Some Absent
   absent_state header other =
       ap (state_in header) (tlvs_of_lem area tlvs a)
       ∙ ⊎_elim (λ none. means_one header tlvs (Some Absent) (no_checksum none)) (λ f. absurd (other (ap (λ (l : Lookup). l.outcome) (one_found f))))
       (first_or_none 0x03 tlvs)
 
   -- and what it finds is the first
-  found_first : (header : List ℕ) → LastPart header area → told_finding r.answer ≡ found → FirstAt header area r.start r.length
+  found_first : (header : List ℕ) → LastPart header area → told_finding r ≡ found → FirstAt header area (told_lookup r).start (told_lookup r).length
   found_first header last is =
       ⊎_elim
       (λ none. let e = sym is ∙ ap (λ (l : Lookup). l.outcome) (none_found none) in let z : ◌≡◌ {A = ℕ} 0 1 = cc in absurd (omega arith))
@@ -109,12 +110,12 @@ module _ (area : List ℕ) (tlvs : List Tlv) (a : Area area tlvs) (r : Examined)
       (first_or_none 0x03 tlvs)
 
 -- ── whatever the area is ──
-module _ (area : List ℕ) (r : Examined) (looks : LooksUp area 0x03 (length area) r) (header : List ℕ) where
+module _ (area : List ℕ) (r : Result Examined IllFormed) (looks : LooksUp area 0x03 (length area) r) (header : List ℕ) where
   -- the state of the header that ends with it
   abbrev here : Option Checksum
   here = pick (well_formed area) (state_in header (tlvs_of area)) (Some Absent)
 
-  pub fills : told_finding r.answer ≡ found → WellFormed area
+  pub fills : told_finding r ≡ found → WellFormed area
   fills is = by (well_formed area) refl
     where
       by : (b : Bool) → well_formed area ≡ b → WellFormed area
@@ -127,13 +128,13 @@ module _ (area : List ℕ) (r : Examined) (looks : LooksUp area 0x03 (length are
   listed_here : (w : WellFormed area) → told_lookup r ≡ lookup_in w.0 0x03 (length area)
   listed_here w = looks.answers ∙ lookup_listed area 0x03 (length area) w.0 w.1
 
-  pub found_here : LastPart header area → told_finding r.answer ≡ found → FirstAt header area r.start r.length
+  pub found_here : LastPart header area → told_finding r ≡ found → FirstAt header area (told_lookup r).start (told_lookup r).length
   found_here last is = let w = fills is in found_first area w.0 w.1 r (listed_here w) header last is
 
   pub filled_here : WellFormed area → state_in header (tlvs_of area) ≡ here
   filled_here w = ap (λ (b : Bool). pick b (state_in header (tlvs_of area)) (Some Absent)) (sym ((well_formed_tested area).1 w))
 
-  pub absent_here : (told_finding r.answer ≡ found → ⊥) → Some Absent ≡ here
+  pub absent_here : (told_finding r ≡ found → ⊥) → Some Absent ≡ here
   absent_here other =
       pick_by (λ (x : Option Checksum). Some Absent ≡ x) (well_formed area)
       (λ e. let w = (well_formed_tested area).0 e in sym (absent_state area w.0 w.1 r (listed_here w) header other))

@@ -14,10 +14,11 @@ use answer::{Header, Stop};
 use area::span_of;
 use crc::crc32c_cleared;
 use lent::{behind, front};
-use lookup::{Answer, lookup};
+use lookup::{Answer, Examined, lookup};
 use reader::read_header;
 use record::{Checksum, Record};
 use tlv_count::has_none;
+use tlv_step::IllFormed;
 
 // Why a checked reading gives no header.
 #[derive(Clone, Copy)]
@@ -71,11 +72,13 @@ pub fn check_header(header: &[u8], start: usize) -> Option<Checksum>
     ensures { result ≡ state_from header.now start }
 {
     let area = behind(header, start);
-    let found = lookup(area, 0x03, area.len());
-    let answer = found.answer;
-    match answer {
-        Answer::Found => check_value(header, area, found.start, found.length),
-        Answer::Absent | Answer::GaveUp | Answer::IllFormed => Some(Checksum::Absent),
+    match lookup(area, 0x03, area.len()) {
+        Ok(Examined { answer, .. }) => match answer {
+            Answer::Found(value) => check_value(header, area, value.start, value.size),
+            Answer::Absent => Some(Checksum::Absent),
+            Answer::GaveUp => Some(Checksum::Absent),
+        },
+        Err(IllFormed) => Some(Checksum::Absent),
     }
 }
 

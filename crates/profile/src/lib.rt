@@ -10,7 +10,8 @@ ghost use Rattle.profile.specs.Answers.{denial_number, family_number, told_profi
 use lent::behind;
 use prefix_table::level_of;
 use record::{Kind, Transport};
-use unique_id::{UniqueId, unique_id};
+use tlv_step::Part;
+use unique_id::unique_id;
 
 // The longest header that the profile takes.
 const LONGEST: usize = 536;
@@ -111,13 +112,13 @@ fn admit_stream(
 {
     let area = behind(header, at);
     match unique_id(area) {
-        UniqueId::Value { start, size } => Ok(Admitted {
+        Some(Part { start, size }) => Ok(Admitted {
             level: level_of(table, family.number(), source),
             length: header.len(),
             start: header.len() - area.len() + start,
             size,
         }),
-        UniqueId::Missing => Err(Denial::UniqueId),
+        None => Err(Denial::UniqueId),
     }
 }
 

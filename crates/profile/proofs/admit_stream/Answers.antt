@@ -16,5 +16,5 @@ inside area v e = by (identified area) (λ is. id_inside area is) e
 
 pub overflow_add-result : goal.overflow_add-result
 overflow_add-result c =
-    let h = inside c.behind-area.result.now _ c.in-Value.ensures in
+    let h = inside c.behind-area.result.now _ c.in-Some.ensures in
     omega arith
