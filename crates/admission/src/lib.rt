@@ -9,7 +9,7 @@ use answer::Stop;
 use lent::front;
 use prefix_table::is_good_table;
 use profile::{Admitted, Denial, admit_header};
-use reader::read_header;
+use reader::read;
 use record::block_length;
 
 // Why a caller is not admitted, or not yet.
@@ -50,7 +50,7 @@ pub fn admit(table: &[u8], bytes: &[u8]) -> Result<Admitted, NotAdmitted>
     if bad {
         return Err(NotAdmitted::Denied(Denial::Table));
     }
-    let read = read_header(bytes)?;
+    let read = read(bytes)?;
     let header = front(bytes, read.length);
     let kind = read.record.kind;
     let at = 16 + block_length(kind);

@@ -21,6 +21,7 @@ use Rattle.fields.proofs.Facts.{record_plain}
 use Rattle.lent.specs.Buffers.{over, told_in}
 use Rattle.lent.proofs.BufferLaws.{roomy, over-over, over_all}
 use Rattle.numbers.specs.declared.Told.{Told}
+use Rattle.numbers.specs.Numbers.{four_of}
 use Rattle.connection.specs.Connection.{connection_bytes}
 use Rattle.read_interface.specs.ReadInterface.{spoken, ReadTold}
 use Rattle.read_interface.proofs.AcceptedTold.{AcceptedTold, whole, area_told, sized, long_numbers}
@@ -28,7 +29,7 @@ use Rattle.prefix_table.specs.Table.{rows_of, Good}
 use Rattle.profile.specs.Profile.{Admission, origin_of, by_version, source_level}
 use Rattle.admission.specs.Admits.{admission_by, admission}
 use Rattle.admission.proofs.Demand.{by_good}
-use Rattle.admission_interface.specs.AdmissionInterface.{told_admission, four_of, AdmissionTold}
+use Rattle.admission_interface.specs.AdmissionInterface.{told_admission, AdmissionTold}
 use Rattle.admission_interface.specs.KindFrom.{known_kind, kind_from}
 
 -- the connection before it is told

@@ -1,14 +1,10 @@
--- What `dawnhawse_doorman` answers and leaves in the numbers that are lent to it (document 02, K14).
-use Rattle.std.specs.Prelude.{◌≡◌, List, [], ◌∷◌, ℕ, leb, length}
+-- What `dawnhawse_doorman` answers and leaves in the numbers that are lent to it.
+use Rattle.std.specs.Prelude.{◌≡◌, List, ℕ, leb, length}
 use Rattle.exact.specs.Pick.{pick}
 use Rattle.lent.specs.Buffers.{told_in}
 use Rattle.numbers.specs.declared.Told.{Told}
-use Rattle.numbers.specs.Numbers.{numbers_size}
+use Rattle.numbers.specs.Numbers.{numbers_size, tells_one, four_of}
 use Rattle.profile.specs.Profile.{Admission, admitted, more, refused, denied}
-
--- an answer that tells one number
-abbrev pub tells_one : (answer first : ℕ) → Told
-tells_one answer first = record { answer = answer; first = first; second = 0; start = 0; length = 0 }
 
 -- 0 with the level, the header's length, and where the value of TLV 0x05 starts in the bytes and its length; 255 with how few further bytes could make a
 -- whole header; the number of a refusal with its place; "30 to 34 with zeros"
@@ -17,9 +13,6 @@ told_admission (admitted level n start size) = record { answer = 0; first = leve
 told_admission (more n) = tells_one 255 n
 told_admission (refused k p) = tells_one k p
 told_admission (denied k) = tells_one k 0
-
-abbrev pub four_of : Told → List ℕ
-four_of t = t.first ∷ t.second ∷ t.start ∷ t.length ∷ []
 
 -- what is told of an answer: "14 for fewer than 4 numbers", and the numbers as they were
 pub record AdmissionTold (a : Admission) (numbers : List ℕ) (answer : ℕ) (after : List ℕ) : Type 0 where

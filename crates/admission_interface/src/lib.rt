@@ -27,13 +27,7 @@ fn tell(said: Result<Admitted, Denial>) -> Told
             start: caller.start as u64,
             length: caller.size as u64,
         },
-        Err(denial) => Told {
-            answer: u32::from(u8::from(denial)),
-            first: 0,
-            second: 0,
-            start: 0,
-            length: 0,
-        },
+        Err(denial) => Told::one(u32::from(u8::from(denial)), 0),
     }
 }
 
@@ -67,6 +61,6 @@ pub fn admit(table: &[u8], bytes: &[u8], numbers: &mut [u64]) -> u32
     let kind = kind_from(connection[0]);
     let at = numbers[2] as usize;
     let told = tell(admit_header(table, version, kind, &connection[1..109], header, at));
-    put_numbers(numbers, told.first, told.second, told.start, told.length);
+    told.put(numbers);
     told.answer
 }

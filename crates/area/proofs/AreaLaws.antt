@@ -5,12 +5,10 @@ use Rattle.exact.specs.Pick.{pick}
 use Rattle.record.specs.declared.Kind.{Kind}
 use Rattle.record.specs.declared.Kind.TheVariants.{Local, Unspecified, Ip4, Ip6, Unix}
 use Rattle.record.specs.Kinds.{block_length}
-use Rattle.answer.specs.declared.Verdict.{Verdict}
-use Rattle.answer.specs.declared.Verdict.TheVariants.{Accepted, More, Refused}
 use Rattle.answer.specs.Answers.{block_area, area_of}
-use Rattle.area.specs.Area.{area_by, area_end, area_start, span_end, span_start}
+use Rattle.area.specs.Area.{span_end, span_start}
 
--- ── of a header of n bytes ──
+-- of a header of n bytes
 module _ (n v : ℕ) (kind : Kind) where
   end_within : (size : ℕ) → span_end n v kind size ≤ size
   end_within size = by (eqb v 2) (eqb (block_length kind) 0)
@@ -53,15 +51,3 @@ accepted_part n true (Unix t) s = part s 232 n
 pub span_part : (n v : ℕ) (kind : Kind) (s : List ℕ)
     → take (span_end n v kind (length s) - span_start n v kind (length s)) (drop (span_start n v kind (length s)) s) ≡ area_of v kind (take n s)
 span_part n v kind s = accepted_part n (eqb v 2) kind s
-
--- ── by the verdict ──
-pub area_inside : (v : Verdict) (kind : Kind) (size : ℕ) → (area_start v kind size ≤ area_end v kind size) × (area_end v kind size ≤ size)
-area_inside (Accepted n v) kind size = span_inside n v kind size
-area_inside (More n) kind size = (omega arith, omega arith)
-area_inside (Refused k p) kind size = (omega arith, omega arith)
-
-pub area_part : (v : Verdict) (kind : Kind) (s : List ℕ)
-    → take (area_end v kind (length s) - area_start v kind (length s)) (drop (area_start v kind (length s)) s) ≡ area_by v kind s
-area_part (Accepted n v) kind s = span_part n v kind s
-area_part (More n) kind s = nothing s (16 + block_length kind)
-area_part (Refused k p) kind s = nothing s (16 + block_length kind)

@@ -2,9 +2,9 @@
 #![tactic(auto)]
 
 ghost use Rattle.std.specs.Prelude.{◌≡◌, ◌+◌, length};
-ghost use Rattle.area.specs.Area.{span_start, span_end, area_start, area_end, header_area};
+ghost use Rattle.area.specs.Area.{span_start, span_end, header_area};
 
-use answer::{Header, Verdict};
+use answer::Header;
 use record::{Kind, block_length};
 
 // Where a part of the bytes read begins and ends.
@@ -29,16 +29,6 @@ pub fn span_of(length: usize, version: u8, kind: Kind, size: usize) -> Span
     Span {
         start: end.min(16 + block),
         end,
-    }
-}
-
-// The same by the verdict on the bytes read; only an accepted header has an area.
-pub fn area_span(verdict: Verdict, kind: Kind, size: usize) -> Span
-    ensures { (result.start ≡ area_start verdict kind size) × (result.end ≡ area_end verdict kind size) }
-{
-    match verdict {
-        Verdict::Accepted { length, version } => span_of(length, version, kind, size),
-        Verdict::More { .. } | Verdict::Refused { .. } => Span { start: 0, end: 0 },
     }
 }
 

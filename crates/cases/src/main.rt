@@ -22,7 +22,7 @@ fn judge_one<R: Read, W: Write>(
     if report::read_full(reader, bytes)? < n {
         return Ok(false);
     }
-    report::print_answer(writer, &reader::read_header(bytes))?;
+    report::print_answer(writer, &reader::read(bytes))?;
     Ok(true)
 }
 

@@ -1,5 +1,5 @@
 -- The header and its TLV area as parts of the bytes read, and the state of the header that they begin with.
-use Rattle.std.specs.Prelude.{Some}
+use Rattle.std.specs.Prelude.{Some, Ok}
 use mathlib.Core.Path.{◌≡◌, refl, ap, ap₂, ◌∙◌}
 use mathlib.Core.Bool.{Bool, true, false}
 use mathlib.Core.List.{List, []}
@@ -19,12 +19,11 @@ use Rattle.record.specs.declared.Checksum.TheVariants.{Absent}
 use Rattle.record.specs.Kinds.{block_length}
 use Rattle.header.specs.Demand.{Judges}
 use Rattle.fields.proofs.Facts.{area_filled}
-use Rattle.answer.specs.declared.Verdict.{Verdict}
-use Rattle.answer.specs.declared.Verdict.TheVariants.{Accepted, More, Refused}
-use Rattle.answer.specs.declared.Reading.{Reading}
-use Rattle.answer.specs.Answers.{block_area, told_verdict}
-use Rattle.area.specs.Area.{area_by, area_start, area_end}
-use Rattle.area.proofs.AreaLaws.{area_inside, area_part}
+use Rattle.answer.specs.declared.Header.{Header}
+use Rattle.answer.specs.Answers.{block_area, area_of}
+use Rattle.answer.specs.Headers.{told_header}
+use Rattle.area.specs.Area.{span_start, span_end}
+use Rattle.area.proofs.AreaLaws.{span_inside, span_part}
 use Rattle.checksum.specs.State.{state_in, state_from, state_on}
 
 -- a part of the bytes, cut at its end and then at its start
@@ -35,12 +34,6 @@ cut s m n h k =
     ∙ drop_at (take m s) (take (n - m) (drop m s)) m (length-take-le m s (omega arith))
 
 module _ (s : List ℕ) where
-  -- TLVs fill it
-  filled : (w : Verdict) (r : Reading) → Judges (told_verdict s w r) s → WellFormed (area_by w r.record.kind s)
-  filled (Accepted n v) r j = area_filled (take n s) _ j.1
-  filled (More n) r j = ([], (refl, tt))
-  filled (Refused k p) r j = ([], (refl, tt))
-
   -- what ends with it is the header, or there is no TLV
   state_by : (n : ℕ) → n ≤ length s → (b : Bool) (kind : Kind)
       → state_in (take (pick b (pick (eqb (block_length kind) 0) 0 (min n (length s))) 0) s) (tlvs_of (pick b (block_area kind (take n s)) []))
@@ -52,21 +45,17 @@ module _ (s : List ℕ) where
   state_by n h true (Ip6 t) = let e : min n (length s) ≡ n = omega arith in ap (λ (k : ℕ). state_in (take k s) (tlvs_of (block_area (Ip6 t) (take n s)))) e
   state_by n h true (Unix t) = let e : min n (length s) ≡ n = omega arith in ap (λ (k : ℕ). state_in (take k s) (tlvs_of (block_area (Unix t) (take n s)))) e
 
-  state_told : (w : Verdict) (r : Reading) → Judges (told_verdict s w r) s
-      → state_in (take (area_end w r.record.kind (length s)) s) (tlvs_of (area_by w r.record.kind s)) ≡ state_on s (told_verdict s w r)
-  state_told (Accepted n v) r j = state_by n j.0 (eqb v 2) r.record.kind
-  state_told (More n) r j = refl
-  state_told (Refused k p) r j = refl
-
   -- by the span of the area
-  pub state_spanned : (w : Verdict) (r : Reading) → Judges (told_verdict s w r) s → (start end : ℕ) → start ≡ area_start w r.record.kind (length s)
-      → end ≡ area_end w r.record.kind (length s) → state_from (take end s) start ≡ state_on s (told_verdict s w r)
-  state_spanned w r j start end from to =
-      let kind = r.record.kind in
-      let inside = area_inside w kind (length s) in
-      let area_is : drop start (take end s) ≡ area_by w kind s =
-      cut s start end (omega arith) (omega arith) ∙ ap₂ (λ (m n : ℕ). take (n - m) (drop m s)) from to ∙ area_part w kind s in
+  pub state_spanned : (h : Header) → Judges (told_header s (Ok h)) s → (start end : ℕ) → start ≡ span_start h.length h.version h.«record».kind (length s)
+      → end ≡ span_end h.length h.version h.«record».kind (length s) → state_from (take end s) start ≡ state_on s (told_header s (Ok h))
+  state_spanned h j start end from to =
+      let kind = h.«record».kind in
+      let n = h.length in
+      let v = h.version in
+      let inside = span_inside n v kind (length s) in
+      let area_is : drop start (take end s) ≡ area_of v kind (take n s) =
+      cut s start end (omega arith) (omega arith) ∙ ap₂ (λ (m n : ℕ). take (n - m) (drop m s)) from to ∙ span_part n v kind s in
       ap (λ (a : List ℕ). pick (well_formed a) (state_in (take end s) (tlvs_of a)) (Some Absent)) area_is
-      ∙ ap (λ (b : Bool). pick b (state_in (take end s) (tlvs_of (area_by w kind s))) (Some Absent)) ((well_formed_tested (area_by w kind s)).1 (filled w r j))
-      ∙ ap (λ (n : ℕ). state_in (take n s) (tlvs_of (area_by w kind s))) to
-      ∙ state_told w r j
+      ∙ ap (λ (b : Bool). pick b (state_in (take end s) (tlvs_of (area_of v kind (take n s)))) (Some Absent)) ((well_formed_tested (area_of v kind (take n s))).1 (area_filled (take n s) _ j.1))
+      ∙ ap (λ (m : ℕ). state_in (take m s) (tlvs_of (area_of v kind (take n s)))) to
+      ∙ state_by n j.0 (eqb v 2) kind

@@ -15,7 +15,7 @@ use area::span_of;
 use crc::crc32c_cleared;
 use lent::{behind, front};
 use lookup::{Answer, Examined, lookup};
-use reader::read_header;
+use reader::read;
 use record::{Checksum, Record};
 use tlv_count::has_none;
 use tlv_step::IllFormed;
@@ -87,7 +87,7 @@ pub fn read_checked(s: &[u8]) -> Result<Header, CheckedStop>
     ensures told { told_checked s.now result ≡ checked_verdict s.now }
     ensures claim { Checks s.now (told_checked s.now result) }
 {
-    let header = read_header(s)?;
+    let header = read(s)?;
     let area = span_of(header.length, header.version, header.record.kind, s.len());
     match check_header(front(s, area.end), area.start) {
         Some(checksum) => Ok(Header {

@@ -6,13 +6,13 @@
 ghost use Rattle.std.specs.Prelude.{◌≡◌, ◌≤◌, length, drop};
 ghost use Rattle.record.specs.Records.{record_of, with_checksum};
 ghost use Rattle.address_block.specs.AddressBlock.{block_record};
-ghost use Rattle.answer.specs.Sight.{caller_record, record_by};
+ghost use Rattle.answer.specs.Sight.{caller_record};
 ghost use Rattle.answer.specs.Headers.{header_of};
 ghost use Rattle.lent.specs.Buffers.{told_in};
 ghost use Rattle.connection.specs.Connection.{connection_size, connection_bytes};
 
 use address_block::{held, ports_of};
-use answer::{Caller, Seen, Sight, in_bytes};
+use answer::{Caller, Sight};
 use kind_code::{code_of, state_byte};
 use lent::{behind, front, put};
 use record::{Checksum, Kind, Record, address_length};
@@ -89,17 +89,6 @@ pub fn put_sight(bytes: &[u8], sight: &Sight, out: &mut [u8])
     match sight {
         Sight::Line(line) => put_caller(&line.value, out),
         Sight::Block(block) => put_block(block.value, bytes, out),
-    }
-}
-
-// Puts the connection that is seen in the bytes, where the output has room for it; else it stays as it is.
-pub fn put_seen(bytes: &[u8], seen: Seen, out: &mut [u8])
-    ensures { out.new ≡ told_in connection_size (connection_bytes (record_by seen.verdict bytes.now seen.caller)) out.old }
-{
-    if in_bytes(seen.verdict) {
-        put_block(seen.caller.kind, bytes, out);
-    } else {
-        put_caller(&seen.caller, out);
     }
 }
 

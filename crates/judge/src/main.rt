@@ -7,5 +7,5 @@ use std::io;
 fn main(rt: HostRuntime) -> io::Result<()> {
     let mut buffer = [0u8; 65536];
     let n = report::read_full(&mut rt.stdin(), &mut buffer)?;
-    report::print_answer(&mut rt.stdout(), &reader::read_header(&buffer[..n]))
+    report::print_answer(&mut rt.stdout(), &reader::read(&buffer[..n]))
 }

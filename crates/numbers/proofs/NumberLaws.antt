@@ -1,4 +1,4 @@
--- Four stores, and an area that is no longer than its header.
+-- An area is no longer than its header.
 use mathlib.Core.Path.{◌≡◌, refl}
 use mathlib.Core.Bool.{Bool, true, false}
 use mathlib.Core.List.{List, [], ◌∷◌}
@@ -10,23 +10,13 @@ use Rattle.record.specs.declared.Kind.{Kind}
 use Rattle.lent.specs.Buffers.{over}
 use lib.Dec.{eqb}
 use Rattle.record.specs.Kinds.{block_length}
-use Rattle.answer.specs.declared.Verdict.TheVariants.{Accepted}
-use Rattle.area.specs.Area.{area_end}
+use Rattle.area.specs.Area.{span_end}
 
--- ── four stores ──
-pub four_stores : (d : List ℕ) (a b c e : ℕ) → 4 ≤ length d → set (set (set (set d 0 a) 1 b) 2 c) 3 e ≡ over (a ∷ b ∷ c ∷ e ∷ []) d
-four_stores [] a b c e h = absurd (omega arith)
-four_stores (w ∷ []) a b c e h = absurd (omega arith)
-four_stores (w ∷ x ∷ []) a b c e h = absurd (omega arith)
-four_stores (w ∷ x ∷ y ∷ []) a b c e h = absurd (omega arith)
-four_stores (w ∷ x ∷ y ∷ z ∷ d) a b c e h = refl
-
--- ── the numbers ──
 -- the area is no longer than the header
 end_by : (n size : ℕ) (b c : Bool) → pick b (pick c 0 (min n size)) 0 ≤ n
 end_by n size true true = omega arith
 end_by n size true false = omega arith
 end_by n size false c = omega arith
 
-pub end_within_header : (kind : Kind) (size n v : ℕ) → area_end (Accepted n v) kind size ≤ n
+pub end_within_header : (kind : Kind) (size n v : ℕ) → span_end n v kind size ≤ n
 end_within_header kind size n v = end_by n size (eqb v 2) (eqb (block_length kind) 0)

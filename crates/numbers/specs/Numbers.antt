@@ -2,10 +2,10 @@
 use Rattle.std.specs.Prelude.{List, [], ◌∷◌, ℕ, ◌-◌, leb}
 use Rattle.exact.specs.Pick.{pick}
 use Rattle.record.specs.declared.Kind.{Kind}
-use Rattle.answer.specs.declared.Verdict.{Verdict}
-use Rattle.answer.specs.declared.Verdict.TheVariants.{Accepted, More, Refused}
+use Rattle.answer.specs.declared.Stop.{Stop}
+use Rattle.answer.specs.declared.Stop.TheVariants.{More, Refused}
 use Rattle.answer.specs.Answers.{number_of, WriteAnswer, wrote, refuses}
-use Rattle.area.specs.Area.{area_start, area_end}
+use Rattle.area.specs.Area.{span_start, span_end}
 use Rattle.numbers.specs.declared.Told.{Told}
 use Rattle.lent.specs.Buffers.{told_in}
 use Rattle.stored_form.specs.Loading.{LoadAnswer, loads, no_record}
@@ -48,15 +48,17 @@ tells_one answer first = record { answer = answer; first = first; second = 0; st
 abbrev pub four_of : Told → List ℕ
 four_of t = t.first ∷ t.second ∷ t.start ∷ t.length ∷ []
 
--- what is told of a verdict on size bytes, and the kind of its record
-abbrev pub told_of : Verdict → Kind → ℕ → Told
-told_of (Accepted n v) kind size =
+-- what is told of a header of n bytes, of which size are there, and of bytes that are no whole header
+abbrev pub header_told : (n version : ℕ) → Kind → ℕ → Told
+header_told n version kind size =
     record {
       answer = 0;
       first = n;
-      second = v;
-      start = n - (area_end (Accepted n v) kind size - area_start (Accepted n v) kind size);
-      length = area_end (Accepted n v) kind size - area_start (Accepted n v) kind size;
+      second = version;
+      start = n - (span_end n version kind size - span_start n version kind size);
+      length = span_end n version kind size - span_start n version kind size;
     }
-told_of (More n) kind size = tells_one 255 n
-told_of (Refused k p) kind size = tells_one (number_of k) p
+
+abbrev pub stop_told : Stop → Told
+stop_told (More n) = tells_one 255 n
+stop_told (Refused k p) = tells_one (number_of k) p

@@ -7,9 +7,10 @@ ghost use Rattle.answer.specs.Answers.{told_written};
 ghost use Rattle.stored_form.specs.Loading.{told_loaded};
 ghost use Rattle.stored_form.specs.Converting.{told_converted};
 ghost use Rattle.lookup.specs.Lookup.{told_finding};
-ghost use Rattle.numbers.specs.Numbers.{numbers_size, tells_one, four_of, told_of, room_beside, written_number, numbers_after, load_number, lookup_number};
+ghost use Rattle.numbers.specs.Numbers.{numbers_size, tells_one, four_of, header_told, stop_told, room_beside, written_number, numbers_after, load_number, lookup_number};
 
-use answer::{Fault, Verdict, fault_number, refusal_number};
+use answer::{Fault, Stop};
+use area::span_of;
 use lookup::{Answer, Examined};
 use record::{Kind, Record};
 use stored_form::{ConvertError, Flaw, flaw_number};
@@ -41,6 +42,33 @@ impl Told {
         }
     }
 
+    // What a header of this length, version and kind tells, of which size bytes are there.
+    pub fn header(length: usize, version: u8, kind: Kind, size: usize) -> Told
+        ensures { result ≡ header_told length version kind size }
+    {
+        let span = span_of(length, version, kind, size);
+        let area = span.end - span.start;
+        Told {
+            answer: 0,
+            first: length as u64,
+            second: version as u64,
+            start: (length - area) as u64,
+            length: area as u64,
+        }
+    }
+
+    // What bytes tell that are no whole header.
+    pub fn stop(stop: Stop) -> Told
+        ensures { result ≡ stop_told stop }
+    {
+        match stop {
+            Stop::More { least } => Told::one(255, least as u64),
+            Stop::Refused { refusal, place } => {
+                Told::one(u32::from(u8::from(refusal)), place as u64)
+            }
+        }
+    }
+
     // Puts the four numbers at the front of the output, where it has room for them; else it stays as it is.
     pub fn put(self, out: &mut [u64])
         ensures { out.new ≡ told_in numbers_size (four_of self) out.old }
@@ -65,27 +93,6 @@ pub fn put_all(told: &[u64], out: &mut [u64])
     }
 }
 
-// What a verdict on size bytes and the kind tell.
-pub fn tell(verdict: Verdict, kind: Kind, size: usize) -> Told
-    ensures { result ≡ told_of verdict kind size }
-{
-    let span = area::area_span(verdict, kind, size);
-    let area = span.end - span.start;
-    match verdict {
-        Verdict::Accepted { length, version } => Told {
-            answer: 0,
-            first: length as u64,
-            second: version as u64,
-            start: (length - area) as u64,
-            length: area as u64,
-        },
-        Verdict::More { least } => Told::one(255, least as u64),
-        Verdict::Refused { refusal, place } => {
-            Told::one(refusal_number(refusal) as u32, place as u64)
-        }
-    }
-}
-
 // The room of an output beside so many numbers: none, where they are too few.
 pub fn room_beside(numbers: usize, output: usize) -> usize
     ensures { result ≡ room_beside numbers output }
@@ -102,7 +109,7 @@ pub fn tell_written(written: Result<usize, Fault>, numbers: &mut [u64]) -> u32
             put_numbers(numbers, n as u64, 0, 0, 0);
             0
         }
-        Err(fault) => fault_number(fault) as u32,
+        Err(fault) => u32::from(u8::from(fault)),
     }
 }
 

@@ -12,7 +12,7 @@ use Rattle.profile.specs.Profile.{Admission, denied, origin_of, by_version, sour
 use Rattle.admission.specs.Admits.{admission}
 use Rattle.admission_interface.specs.AdmissionInterface.{told_admission, AdmissionTold}
 use Rattle.admission_interface.proofs.ToldLaws.{empty, passed_on, small_version, by_parts, told_over}
-use Rattle.admission_interface.proofs.admit.Goals.{After-admit_header, After-front-header, After-kind_from-kind, After-put_numbers, After-put_numbers-2, After-read-answer, After-tell-told, Else-answer-ne0, Start}
+use Rattle.admission_interface.proofs.admit.Goals.{After-admit_header, After-front-header, After-kind_from-kind, After-put_numbers, After-put, After-read-answer, After-tell-told, Else-answer-ne0, Start}
 use Rattle.admission_interface.proofs.admit.Goals as goal
 
 pub returns-then-numbers-lt-NUMBERS : goal.returns-then-numbers-lt-NUMBERS
@@ -87,8 +87,8 @@ overflow_cast-version c =
 
 pub returns : goal.returns
 returns c =
-    let put = (goal.at.returns c).After-put_numbers-2 in
-    let said = (goal.at.After-put_numbers-2 put).After-tell-told in
+    let put = (goal.at.returns c).After-put in
+    let said = (goal.at.After-put put).After-tell-told in
     let answered = (goal.at.After-tell-told said).After-admit_header in
     let kind = (goal.at.After-admit_header answered).After-kind_from-kind in
     let cut = (goal.at.After-kind_from-kind kind).After-front-header in
@@ -101,5 +101,5 @@ returns c =
     (λ (k : Kind). by_version (get_or n 1 0) (origin_of k) (drop (get_or n 2 0) header) (length header) (source_level (rows_of (table d)) (origin_of k) (take 108 (drop 1 (connection_left d)))))
     kind.kind_from-kind.ensures
     ∙ by_parts (table d) (bytes d) (numbers d) (good d) (room d) n (connection_left d) (a e) header cut.front-header.ensures.2 in
-    told_over (table d) (bytes d) (numbers d) (good d) (room d) (numbers_left d) (connection_left d) (a e) said.tell-told.result put.put_numbers-2.new.out
-    (said.tell-told.ensures ∙ ap told_admission (answered.admit_header.ensures ∙ parts)) put.put_numbers-2.ensures
+    told_over (table d) (bytes d) (numbers d) (good d) (room d) (numbers_left d) (connection_left d) (a e) said.tell-told.result put.put.new.out
+    (said.tell-told.ensures ∙ ap told_admission (answered.admit_header.ensures ∙ parts)) put.put.ensures

@@ -1,16 +1,15 @@
--- `read_header` ensures the verdict and `check_header` the state; the answer is the one that is claimed.
+-- `read` ensures the verdict and `check_header` the state; the answer is the one that is claimed.
 use Rattle.std.specs.Prelude.{Option, Some, None, Result, Ok, Err}
 use Rattle.std.proofs.Common.{◌≡◌, refl, sym, ap, ◌∙◌, subst, List, ℕ, length, take}
 use Rattle.std.proofs.lemmas.Result.{err_from_is_err_and}
 use Rattle.record.specs.declared.Checksum.{Checksum}
 use Rattle.fields.proofs.HeaderVerdict.{verdict}
-use Rattle.answer.specs.declared.Verdict.TheVariants.{Accepted}
 use Rattle.answer.specs.declared.Header.{Header}
 use Rattle.answer.specs.declared.Stop.{Stop}
 use Rattle.answer.specs.declared.Stop.TheVariants.{More, Refused}
 use Rattle.answer.specs.Headers.{told_stop, told_header}
 use Rattle.area.specs.Area.{span_start, span_end}
-use Rattle.reader.specs.Read.{ReadsHeader}
+use Rattle.reader.specs.Read.{Reads}
 use Rattle.checksum.specs.Checked.{CheckedVerdict, judged, Checks}
 use Rattle.checksum.specs.State.{state_from, state_on, checked_by, checked_verdict}
 use Rattle.checksum.proofs.Demand.{checks}
@@ -23,18 +22,18 @@ module _ (s : List ℕ) where
   claimed x e = subst (Checks s) (sym e) (checks s)
 
   -- where there is no whole header
-  by_stop : (e : Stop) → ReadsHeader s (Err e) → judged (told_stop e) ≡ checked_verdict s
+  by_stop : (e : Stop) → Reads s (Err e) → judged (told_stop e) ≡ checked_verdict s
   by_stop (More n) r = ap (λ v. checked_by v (state_on s v)) r.answers
   by_stop (Refused k p) r = ap (λ v. checked_by v (state_on s v)) r.answers
 
   -- the state of one
-  module _ (h : Header) (r : ReadsHeader s (Ok h)) (state : Option Checksum) (start end : ℕ)
+  module _ (h : Header) (r : Reads s (Ok h)) (state : Option Checksum) (start end : ℕ)
       (from : start ≡ span_start h.length h.version h.«record».kind (length s)) (to : end ≡ span_end h.length h.version h.«record».kind (length s))
       (said : state ≡ state_from (take end s) start) where
     by_state_lem : checked_by (told_header s (Ok h)) state ≡ checked_verdict s
     by_state_lem =
         ap (checked_by (told_header s (Ok h)))
-        (said ∙ state_spanned s (Accepted h.length h.version) (record { verdict = Accepted h.length h.version; «record» = h.«record» }) r.judged start end from to)
+        (said ∙ state_spanned s h r.judged start end from to)
         ∙ ap (λ v. checked_by v (state_on s v)) r.answers
 
 pub returns-in_err-header-clause-told : goal.returns-in_err-header-clause-told
