@@ -1,4 +1,4 @@
--- `is_good_table` tests the table, `read_header` ensures the verdict, and `admit_header` what the profile makes of it.
+-- `is_good_table` tests the table, `read` ensures the verdict, and `admit_header` what the profile makes of it.
 use Rattle.std.specs.Prelude.{Result, Ok, Err}
 use Rattle.std.proofs.Common.{◌≡◌, refl, sym, ap, ap₂, ◌∙◌, subst, Bool, true, false, List, [], ℕ, ◌+◌, eqb, length, take, drop, length-take-le}
 use Rattle.std.proofs.lemmas.Result.{err_from_is_err_and}
@@ -14,7 +14,7 @@ use Rattle.answer.specs.declared.Header.{Header}
 use Rattle.answer.specs.declared.Stop.{Stop}
 use Rattle.answer.specs.declared.Stop.TheVariants.{More, Refused}
 use Rattle.answer.specs.Answers.{block_area, area_of}
-use Rattle.reader.specs.Read.{ReadsHeader}
+use Rattle.reader.specs.Read.{Reads}
 use Rattle.prefix_table.specs.Table.{rows_of}
 use Rattle.prefix_table.specs.TableTests.{good_table}
 use Rattle.profile.specs.Profile.{Admission, denied, origin_of, by_origin, by_version, source_level}
@@ -50,12 +50,12 @@ module _ (table bytes : List ℕ) (good : good_table table ≡ true) where
   by_verdict v e = ap (admission_by (rows_of table)) e ∙ ap (λ (b : Bool). pick b (admission_by (rows_of table) (verdict bytes)) (denied 34)) (sym good)
 
   -- where there is no whole header
-  by_stop : (e : Stop) → ReadsHeader bytes (Err e) → told_stop e ≡ admission table bytes
+  by_stop : (e : Stop) → Reads bytes (Err e) → told_stop e ≡ admission table bytes
   by_stop (More n) r = by_verdict _ r.answers
   by_stop (Refused k p) r = by_verdict _ r.answers
 
   -- and by the parts of one
-  by_parts : (h : Header) → ReadsHeader bytes (Ok h) → (header : List ℕ) (at : ℕ) → header ≡ take h.length bytes → at ≡ 16 + block_length h.«record».kind
+  by_parts : (h : Header) → Reads bytes (Ok h) → (header : List ℕ) (at : ℕ) → header ≡ take h.length bytes → at ≡ 16 + block_length h.«record».kind
       → by_version h.version (origin_of h.«record».kind) (drop at header) (length header) (source_level (rows_of table) (origin_of h.«record».kind) h.«record».source)
       ≡ admission table bytes
   by_parts h r header at is place =

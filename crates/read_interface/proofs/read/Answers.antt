@@ -1,5 +1,9 @@
 -- The reading answers the verdict, `tell` tells its numbers, and the two buffers are written where both have room.
-use Rattle.std.proofs.Common.{arith}
+use Rattle.std.proofs.Common.{arith, ap, ◌∙◌}
+use Rattle.record.specs.declared.Record.{Record}
+use Rattle.lent.specs.Buffers.{told_in}
+use Rattle.connection.specs.Connection.{connection_size, connection_bytes}
+use Rattle.answer.specs.Headers.{header_of}
 use Rattle.fields.proofs.HeaderVerdict.{verdict}
 use Rattle.read_interface.specs.ReadInterface.{spoken}
 use Rattle.read_interface.proofs.ReadLaws.{few_numbers, short_connection, untouched, written_header, written_stop}
@@ -18,7 +22,14 @@ returns-then-connection-lt-CONNECTION c =
     (short_connection x.numbers.now x.connection.now (omega arith) (omega arith))
 
 pub returns-in-Ok : goal.returns-in-Ok
-returns-in-Ok c = ?
+returns-in-Ok c =
+    let x = c.args in
+    written_header x.bytes.now x.numbers.now x.connection.now c.put.new.out c.put_sight.new.out (omega arith) (omega arith) c.tell.result c.put.ensures
+    (verdict x.bytes.now) (header_of x.bytes.now c.in-Ok.seen) c.in-Ok.ensures.answers (c.tell.ensures x.bytes.now) c.put_sight.ensures
 
 pub returns-in-Err : goal.returns-in-Err
-returns-in-Err c = ?
+returns-in-Err c =
+    let x = c.args in
+    written_stop x.bytes.now x.numbers.now x.connection.now c.put-in-Err.new.out c.put_record.new.out (omega arith) (omega arith) c.stop-told.result
+    c.put-in-Err.ensures (verdict x.bytes.now) c.in-Err.stop c.in-Err.ensures.answers c.stop-told.ensures
+    (c.put_record.ensures ∙ ap (λ (r : Record). told_in connection_size (connection_bytes r) x.connection.now) c.blank.ensures)
