@@ -8,7 +8,7 @@ ghost use Rattle.record.specs.Kinds.{kind_word};
 ghost use Rattle.draft.specs.Drafts.{Adds};
 ghost use Rattle.report.specs.Line.{line_of, stop_line, answer_line};
 
-use answer::{Header, Stop, refusal_number};
+use answer::{Header, Stop};
 use draft::{Base, Draft};
 use record::{Kind, Transport};
 use std::io;
@@ -51,7 +51,7 @@ fn push_stop(draft: &mut Draft, stop: Stop)
         Stop::More { least: _ } => draft.push_word(b"more\n"),
         Stop::Refused { refusal, place } => {
             draft.push_word(b"refused ");
-            draft.push_number(Base::Decimal, u64::from(refusal_number(refusal)));
+            draft.push_number(Base::Decimal, u64::from(u8::from(refusal)));
             draft.push_word(b" at ");
             draft.push_number(Base::Decimal, place as u64);
             draft.push(b'\n');

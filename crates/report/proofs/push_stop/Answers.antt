@@ -6,7 +6,7 @@ use Rattle.report.proofs.push_stop.Goals as goal
 
 pub returns-in-Refused-clause-line : goal.returns-in-Refused-clause-line
 returns-in-Refused-clause-line c =
-    let told = rw (c.from.ensures, c.refusal_number.ensures) at c.push_number.ensures in
+    let told = rw (c.from-in-Refused.ensures, c.from.ensures) at c.push_number.ensures in
     let number = adds_more (adds_more c.push_word-in-Refused.ensures told) c.push_word-in-Refused-2.ensures in
     rw c.in-Refused.is (adds_more (adds_more number c.push_number-in-Refused.ensures) c.push.ensures)
 
