@@ -80,7 +80,7 @@ impl From<Fault> for ConvertError {
     }
 }
 
-// The number of a flaw. (Not From: docs/ARCHITECTURE.md names `flaw_number`, beside answer's, as the place of each further number.)
+// The number of a flaw. (A function and no From: `numbers`, and its edit of an invalid input, call it by this name.)
 pub fn flaw_number(flaw: Flaw) -> u8
     ensures { result ≡ flaw_number flaw }
 {
