@@ -13,7 +13,7 @@ use answer::{Fault, Stop};
 use area::span_of;
 use lookup::{Answer, Examined};
 use record::{Kind, Record};
-use stored_form::{ConvertError, Flaw, flaw_number};
+use stored_form::{ConvertError, Flaw};
 use tlv_step::IllFormed;
 
 pub const NUMBERS: usize = 4;
@@ -120,7 +120,7 @@ pub fn tell_converted(converted: Result<usize, ConvertError>, numbers: &mut [u64
     match converted {
         Ok(n) => tell_written(Ok(n), numbers),
         Err(ConvertError::Refused(fault)) => tell_written(Err(fault), numbers),
-        Err(ConvertError::Invalid(flaw)) => flaw_number(flaw) as u32,
+        Err(ConvertError::Invalid(flaw)) => u32::from(u8::from(flaw)),
     }
 }
 
@@ -130,7 +130,7 @@ pub fn outcome_number(loaded: &Result<Record, Flaw>) -> u32
 {
     match loaded {
         Ok(_) => 0,
-        Err(flaw) => flaw_number(*flaw) as u32,
+        Err(flaw) => u32::from(u8::from(*flaw)),
     }
 }
 

@@ -57,6 +57,20 @@ pub enum Flaw {
     Length,
 }
 
+impl From<Flaw> for u8 {
+    ghost from_gives = { λ flaw n. n ≡ flaw_number flaw };
+
+    fn from(flaw: Flaw) -> u8 {
+        match flaw {
+            Flaw::Mark => 15,
+            Flaw::Version => 16,
+            Flaw::Code => 17,
+            Flaw::State => 24,
+            Flaw::Length => 18,
+        }
+    }
+}
+
 // Why a conversion left the output as it was: its input is no stored form, or the writer of the other version refuses.
 #[derive(Clone, Copy)]
 pub enum ConvertError {
@@ -77,18 +91,5 @@ impl From<Fault> for ConvertError {
 
     fn from(fault: Fault) -> ConvertError {
         ConvertError::Refused(fault)
-    }
-}
-
-// The number of a flaw. (A function and no From: `numbers`, and its edit of an invalid input, call it by this name.)
-pub fn flaw_number(flaw: Flaw) -> u8
-    ensures { result ≡ flaw_number flaw }
-{
-    match flaw {
-        Flaw::Mark => 15,
-        Flaw::Version => 16,
-        Flaw::Code => 17,
-        Flaw::State => 24,
-        Flaw::Length => 18,
     }
 }
