@@ -18,7 +18,12 @@ fn numbers_of(looked_up: Result<Examined, IllFormed>, wanted: u8) -> [u64; 4]
 {
     match looked_up {
         Ok(Examined { answer, count }) => match answer {
-            Answer::Found(Part { start, size }) => [count as u64, wanted as u64, start as u64, size as u64],
+            Answer::Found(Part { start, size }) => [
+                count as u64,
+                wanted as u64,
+                start as u64,
+                size as u64,
+            ],
             Answer::Absent | Answer::GaveUp => [count as u64, wanted as u64, 0, 0],
         },
         Err(IllFormed) => [0, wanted as u64, 0, 0],
