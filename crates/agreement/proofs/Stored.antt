@@ -1,5 +1,5 @@
--- Document 02, K7, as C callers see it: moving a stored form leaves what storing leaves of the connection that loading gives (include/dawnhawse.h).
-use Rattle.std.specs.Prelude.{◌≡◌, List, ◌↔◌, ℕ, length}
+-- Moving a stored form, as C callers see it, leaves what storing leaves of the connection that loading gives (include/dawnhawse.h).
+use Rattle.std.specs.Prelude.{◌≡◌, List, ◌↔◌, ℕ, length, Result, Ok}
 use Rattle.std.proofs.Common.{sym, ap, ◌∙◌, subst, arith}
 use Rattle.exact.specs.Claim.{AllBytes}
 use Rattle.lent.specs.Buffers.{over, told_in}
@@ -8,8 +8,8 @@ use Rattle.record.specs.declared.Record.{Record}
 use Rattle.record.specs.Records.{Sized}
 use Rattle.answer.specs.Answers.{WriteAnswer}
 use Rattle.connection.specs.Connection.{connection_size, connection_bytes}
-use Rattle.request.specs.declared.Asked.{Asked}
-use Rattle.request.specs.Request.{request}
+use Rattle.request.specs.declared.RequestError.{RequestError}
+use Rattle.request.specs.Request.{request, asked_record}
 use Rattle.request.proofs.RequestLaws.{connection_size_lem, asked_again}
 use Rattle.stored_form.specs.declared.StoredVersion.{StoredVersion}
 use Rattle.stored_form.specs.Stored.{stored, store_answer}
@@ -39,16 +39,16 @@ moved_as_stored from to s bytes r valid connection told number size loaded outpu
     let form = load_again from s bytes r valid in
     let room = room_beside (length numbers) (length output) in
     let P : WriteAnswer → List ℕ → Type 0 = λ w text. Writes w text output numbers answer output_left numbers_left in
-    let asked : request told ≡ record { number = 0; «record» = r } =
+    let asked : request told ≡ Ok r =
     ap request
     (loaded.1 ∙ ap (λ (l : LoadAnswer). told_in connection_size (connection_bytes (loaded_record l)) connection) valid ∙ connection_told r connection form.sized size)
     ∙ asked_again r form.sized
     in
     let same : convert_answer from to s room ≡ asked_answer (store_answer to) (request told) room =
-    answer_stored from to s r form room ∙ ap (λ (a : Asked). asked_answer (store_answer to) a room) (sym asked)
+    answer_stored from to s r form room ∙ ap (λ (a : Result Record RequestError). asked_answer (store_answer to) a room) (sym asked)
     in
-    let text : converted from to s ≡ stored to (request told).«record» =
-    converted-stored from to s r form ∙ ap (λ (a : Asked). stored to a.«record») (sym asked)
+    let text : converted from to s ≡ stored to (asked_record (request told)) =
+    converted-stored from to s r form ∙ ap (λ (a : Result Record RequestError). stored to (asked_record a)) (sym asked)
     in (
       λ w. subst (P (asked_answer (store_answer to) (request told) room)) text (subst (λ (v : WriteAnswer). P v (converted from to s)) same w),
       λ w. subst (λ (v : WriteAnswer). P v (converted from to s)) (sym same) (subst (P (asked_answer (store_answer to) (request told) room)) (sym text) w),

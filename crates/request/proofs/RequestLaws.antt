@@ -1,5 +1,5 @@
 -- What a C caller was told of a record asks for that record: `given_record` is `connection_bytes` the other way.
-use Rattle.std.specs.Prelude.{◌≡◌, refl, Bool, List, [], ◌∷◌, ◌++◌, ℕ, ◌+◌, length, take, drop, get_or, Option}
+use Rattle.std.specs.Prelude.{◌≡◌, refl, Bool, List, [], ◌∷◌, ◌++◌, ℕ, ◌+◌, length, take, drop, get_or, Option, Ok, Err}
 use Rattle.std.proofs.Common.{sym, ap, ◌∙◌, append_assoc, arith, eq-eqb, length-append, take_at, drop_at, get_or-append-add}
 use Rattle.exact.specs.Network.{network, number_at}
 use Rattle.exact.specs.Pick.{pick}
@@ -13,17 +13,18 @@ use Rattle.kind_code.specs.Codes.{code_of, kind_of}
 use Rattle.kind_code.specs.States.{state_byte, state_of}
 use Rattle.kind_code.proofs.CodeLaws.{code_kind, byte_state}
 use Rattle.connection.specs.Connection.{connection_size, connection_bytes}
-use Rattle.request.specs.Request.{given_record, refused_with, by_state, by_kind, request}
+use Rattle.request.specs.declared.RequestError.TheVariants.{Length}
+use Rattle.request.specs.Request.{given_record, by_state, by_kind, request}
 
 module _ (r : Record) (sized : Sized r) where
-  abbrev code : List ℕ
-  code = code_of r.kind ∷ []
+  abbrev kind_byte : List ℕ
+  kind_byte = code_of r.kind ∷ []
 
   abbrev state : List ℕ
   state = state_byte r.checksum ∷ []
 
   abbrev front : List ℕ
-  front = code ++ r.source ++ r.destination
+  front = kind_byte ++ r.source ++ r.destination
 
   abbrev bytes : List ℕ
   bytes = connection_bytes r
@@ -43,10 +44,10 @@ module _ (r : Record) (sized : Sized r) where
   destination_again : take 108 (drop 109 bytes) ≡ r.destination
   destination_again =
       let rest = network r.source_port ++ (network r.destination_port ++ state) in
-      let split : bytes ≡ (code ++ r.source) ++ (r.destination ++ rest) = simp append_assoc in
-      let at : length (code ++ r.source) ≡ 109 = let s = sized.source in simp length-append (omega arith) in
+      let split : bytes ≡ (kind_byte ++ r.source) ++ (r.destination ++ rest) = simp append_assoc in
+      let at : length (kind_byte ++ r.source) ≡ 109 = let s = sized.source in simp length-append (omega arith) in
       ap (λ (l : List ℕ). take 108 (drop 109 l)) split
-      ∙ ap (take 108) (drop_at (code ++ r.source) (r.destination ++ rest) 109 at)
+      ∙ ap (take 108) (drop_at (kind_byte ++ r.source) (r.destination ++ rest) 109 at)
       ∙ take_at r.destination rest 108 sized.destination
 
   source_port_again : number_at bytes 217 ≡ r.source_port
@@ -69,9 +70,9 @@ module _ (r : Record) (sized : Sized r) where
   record_again : given_record r.kind r.checksum bytes ≡ r
   record_again = same_record r.kind source_again destination_again source_port_again destination_port_again refl
 
-  pub asked_again : request (connection_bytes r) ≡ record { number = 0; «record» = r }
+  pub asked_again : request (connection_bytes r) ≡ Ok r
   asked_again =
-      ap (λ (b : Bool). pick b (by_kind (kind_of (code_of r.kind)) bytes) (refused_with 18)) (eq-eqb (length bytes) connection_size connection_size_lem)
+      ap (λ (b : Bool). pick b (by_kind (kind_of (code_of r.kind)) bytes) (Err Length)) (eq-eqb (length bytes) connection_size connection_size_lem)
       ∙ ap (λ (k : Option Kind). by_kind k bytes) (code_kind r.kind)
       ∙ ap (λ (c : Option Checksum). by_state r.kind c bytes) (state_again ∙ byte_state r.checksum)
-      ∙ ap (λ (q : Record). record { number = 0; «record» = q }) record_again
+      ∙ ap (λ (q : Record). Ok q) record_again

@@ -1,24 +1,32 @@
 // What the bytes of a connection ask of a writer. No public function has a `requires`.
 #![tactic(auto)]
 
-ghost use Rattle.std.specs.Prelude.{◌≡◌, ◌+◌, ◌≤◌, length, take, drop};
-ghost use Rattle.request.specs.Request.{given_record, request as request_of};
+ghost use Rattle.std.specs.Prelude.{◌≡◌, length};
+ghost use Rattle.request.specs.Request.{error_number, given_record, request as request_of};
 ghost use Rattle.connection.specs.Connection.{connection_size};
 
+use address_block::held;
 use connection::CONNECTION;
-use exact::number;
 use kind_code::{kind_of, state_of};
-use record::{Checksum, Kind, Record, blank};
+use record::{Checksum, Kind, Record};
 
-// The address at a place of a connection.
-fn address_at(bytes: &[u8], at: usize) -> [u8; 108]
-    requires { at + 108 ≤ length bytes.now }
-    ensures { result ≡ take 108 (drop at bytes.now) }
-{
-    let mut held = [0u8; 108];
-    let end = at + 108;
-    lent::put(&bytes[at..end], &mut held, 0);
-    held
+// Why the bytes of a connection ask for no record: they have another length, or an unknown kind code or state.
+#[derive(Clone, Copy)]
+pub enum RequestError {
+    Length,
+    Code,
+}
+
+// The number of an error.
+impl From<RequestError> for u32 {
+    ghost from_gives = { λ error n. n ≡ error_number error };
+
+    fn from(error: RequestError) -> u32 {
+        match error {
+            RequestError::Length => 18,
+            RequestError::Code => 17,
+        }
+    }
 }
 
 // The record of a connection of this kind and state.
@@ -26,49 +34,24 @@ fn connection_of(kind: Kind, checksum: Checksum, bytes: &[u8]) -> Record
     requires { length bytes.now ≡ connection_size }
     ensures { result ≡ given_record kind checksum bytes.now }
 {
-    let source = address_at(bytes, 1);
-    let destination = address_at(bytes, 109);
     Record {
         kind,
-        source,
-        destination,
-        source_port: number(bytes[217], bytes[218]),
-        destination_port: number(bytes[219], bytes[220]),
+        source: held(&bytes[1..109]),
+        destination: held(&bytes[109..217]),
+        source_port: u16::from_be_bytes([bytes[217], bytes[218]]),
+        destination_port: u16::from_be_bytes([bytes[219], bytes[220]]),
         checksum,
     }
 }
 
-// What a writer is asked for: a record, or the number that refuses it before its record is looked at.
-#[derive(Drop)]
-pub struct Asked {
-    pub number: u32,
-    pub record: Record,
-}
-
-// What the bytes of a connection ask for: 18 for another length, 17 for an unknown kind code or state.
-pub fn request(bytes: &[u8]) -> Asked
+// The record that the bytes of a connection ask for.
+pub fn request(bytes: &[u8]) -> Result<Record, RequestError>
     ensures { result ≡ request_of bytes.now }
 {
     if bytes.len() != CONNECTION {
-        return Asked {
-            number: 18,
-            record: blank(Kind::Unspecified),
-        };
+        return Err(RequestError::Length);
     }
-    match kind_of(bytes[0]) {
-        Some(kind) => match state_of(bytes[221]) {
-            Some(checksum) => Asked {
-                number: 0,
-                record: connection_of(kind, checksum, bytes),
-            },
-            None => Asked {
-                number: 17,
-                record: blank(Kind::Unspecified),
-            },
-        },
-        None => Asked {
-            number: 17,
-            record: blank(Kind::Unspecified),
-        },
-    }
+    let kind = kind_of(bytes[0]).ok_or(RequestError::Code)?;
+    let checksum = state_of(bytes[221]).ok_or(RequestError::Code)?;
+    Ok(connection_of(kind, checksum, bytes))
 }

@@ -1,24 +1,19 @@
 -- What is left of a request, and of what a writer wrote into the part of the output that it may use.
 use mathlib.Core.Path.{◌≡◌, sym, ap, ◌∙◌, subst}
-use mathlib.Core.Bool.{Bool}
 use mathlib.Core.List.{List, ◌++◌, append_assoc}
 use Prim.Native.Nat.{ℕ, ◌≤◌}
 use native.Mathlib.Omega.{arith}
 use lib.Dec.{leb}
 use lib.ListN.{length, take, drop, take-append-drop, length-take}
-use Rattle.std.specs.Prelude.{Result}
+use Rattle.std.specs.Prelude.{Result, Ok}
 use lib.Seq.{drop-append-le, length-take-le}
-use borrow.Author.Tests.{eq-eqb, ne_eqb, leb-true}
-use Rattle.exact.specs.Pick.{pick, pick_by}
-use Rattle.record.specs.declared.Checksum.{Checksum}
+use Rattle.exact.specs.Pick.{pick_by}
 use Rattle.record.specs.declared.Record.{Record}
 use Rattle.answer.specs.declared.Fault.{Fault}
 use Rattle.answer.specs.Answers.{WriteAnswer, wrote, refuses, told_written, output_after}
 use Rattle.answer.proofs.OutputLaws.{Within}
-use Rattle.stored_form.specs.declared.StoredVersion.{StoredVersion}
-use Rattle.stored_form.specs.Heads.{keeps_test}
-use Rattle.stored_form.specs.Stored.{kept_answer}
-use Rattle.request.specs.declared.Asked.{Asked}
+use Rattle.request.specs.declared.RequestError.{RequestError}
+use Rattle.request.specs.Request.{asked_record}
 use Rattle.numbers.specs.Numbers.{numbers_size, room_beside, written_number, numbers_after}
 use Rattle.write_interface.specs.WriteInterface.{asked_answer, Writes}
 
@@ -57,38 +52,22 @@ told_part answer_in text output numbers within told beside part same is left tel
     }
 
 -- ── what is left of a request ──
-module _ (answer_for : Record → ℕ → WriteAnswer) (text : Record → List ℕ) (output numbers : List ℕ) (a : Asked) where
+module _ (answer_for : Record → ℕ → WriteAnswer) (text : Record → List ℕ) (output numbers : List ℕ) where
   abbrev room : ℕ
   room = room_beside (length numbers) (length output)
 
-  abbrev Left : Asked → ℕ → List ℕ → List ℕ → Type 0
-  Left x answer o n = Writes (asked_answer answer_for x room) (text x.«record») output numbers answer o n
+  abbrev Left : Result Record RequestError → ℕ → List ℕ → List ℕ → Type 0
+  Left x answer o n = Writes (asked_answer answer_for x room) (text (asked_record x)) output numbers answer o n
 
-  pub refused : {x : Asked} → a ≡ x → (a.number ≡ 0 → ⊥) → Left x a.number output numbers
-  refused e h =
-      let is : refuses a.number ≡ asked_answer answer_for a room =
-      ap (λ (b : Bool). pick b (answer_for a.«record» room) (refuses a.number)) (sym (ne_eqb a.number 0 h))
-      in
-      subst (λ (y : Asked). Left y a.number output numbers) e
-      (record {
-        answers = ap written_number is;
-        writes = ap (λ (w : WriteAnswer). output_after w (text a.«record») output) is;
-        tells = ap (λ (w : WriteAnswer). numbers_after w numbers) is;
-      })
-
-  pub passed_on : {x : Asked} (within : (r : Record) (m : ℕ) → Within m (answer_for r m)) (w : Result ℕ Fault) (beside : ℕ) (part : List ℕ) {answer : ℕ} {n : List ℕ}
-      → a ≡ x → a.number ≡ 0 → beside ≡ room
-      → told_written w ≡ answer_for a.«record» (length (take beside output))
-      → part ≡ output_after (answer_for a.«record» (length (take beside output))) (text a.«record») (take beside output)
+  pub passed_on : {x : Result Record RequestError} {r : Record} (within : (r : Record) (m : ℕ) → Within m (answer_for r m)) (w : Result ℕ Fault)
+      (beside : ℕ) (part : List ℕ) {answer : ℕ} {n : List ℕ} → Ok r ≡ x → beside ≡ room
+      → told_written w ≡ answer_for r (length (take beside output))
+      → part ≡ output_after (answer_for r (length (take beside output))) (text r) (take beside output)
       → (answer ≡ written_number (told_written w)) × (n ≡ numbers_after (told_written w) numbers)
       → Left x answer (part ++ drop beside output) n
-  passed_on within w beside part {answer} {n} e h same told left tells =
-      let yes : answer_for a.«record» room ≡ asked_answer answer_for a room =
-      ap (λ (b : Bool). pick b (answer_for a.«record» room) (refuses a.number)) (sym (eq-eqb a.number 0 h))
-      in
-      subst (λ (y : Asked). Left y answer (part ++ drop beside output) n) e
-      (subst (λ (v : WriteAnswer). Writes v (text a.«record») output numbers answer (part ++ drop beside output) n) yes
-      (told_part (answer_for a.«record») (text a.«record») output numbers (within a.«record») (told_written w) beside part same told left tells))
+  passed_on {r = r} within w beside part {answer} {n} is same told left tells =
+      subst (λ (y : Result Record RequestError). Left y answer (part ++ drop beside output) n) is
+      (told_part (answer_for r) (text r) output numbers (within r) (told_written w) beside part same told left tells)
 
 -- ── the part that a writer may use ──
 module _ (numbers output : List ℕ) (beside : ℕ) (same : beside ≡ room_beside (length numbers) (length output)) where

@@ -121,13 +121,12 @@ impl Form for InVersion {
 fn write<F: Form>(form: &F, connection: &[u8], out: &mut [u8], numbers: &mut [u64]) -> u32
     ensures { WritesAsked (F.answer form.now) (F.text form.now) connection.now out.old numbers.old result out.new numbers.new }
 {
-    let asked = request(connection);
-    let number = asked.number;
-    if number != 0 {
-        return number;
-    }
+    let from = match request(connection) {
+        Ok(from) => from,
+        Err(error) => return u32::from(error),
+    };
     let room = room_beside(numbers.len(), out.len());
-    tell_written(form.write(asked.record, &mut out[..room]), numbers)
+    tell_written(form.write(from, &mut out[..room]), numbers)
 }
 
 // Writes a connection's version 1 line, and tells its length; or answers why not, and leaves both buffers as they were.

@@ -5,23 +5,13 @@ use Rattle.stored_form.specs.Loading.{LoadAnswer, loads, no_record, load_answer}
 use Rattle.stored_form.specs.Converting.{converted, convert_by, convert_answer, told_converted}
 use Rattle.answer.proofs.OutputLaws.{Within}
 use Rattle.stored_form.proofs.RoundTrip.{kept_within}
-use Rattle.write_interface.proofs.WriteLaws.{told_part, part_inside, part_size}
+use Rattle.write_interface.proofs.WriteLaws.{told_part}
 use Rattle.write_interface.proofs.convert.Goals.{After-convert, After-tell_converted}
 use Rattle.write_interface.proofs.convert.Goals as goal
 
 within : (l : LoadAnswer) (to : StoredVersion) (size room : ℕ) → Within room (convert_by l to size room)
 within (loads r) to size room = kept_within to r.checksum size room
 within (no_record k) to size room = tt
-
-pub slice_bounds-convert-end : goal.slice_bounds-convert-end
-slice_bounds-convert-end c =
-    let x = c.args in
-    part_inside x.numbers.now x.out.now _ c.room_beside-room.ensures
-
-pub slice_bounds-convert-end-2 : goal.slice_bounds-convert-end-2
-slice_bounds-convert-end-2 c =
-    let x = c.args in
-    part_size x.numbers.now x.out.now _ c.room_beside-room.ensures
 
 pub returns : goal.returns
 returns c =
