@@ -1,12 +1,11 @@
--- What the C functions for TLV 0x20 answer and leave (document 02, K2).
+-- What the C functions for TLV 0x20 answer and leave.
 use Rattle.std.specs.Prelude.{◌≡◌, Bool, List, [], ◌∷◌, ℕ, ◌/◌, ◌%◌, ◌^◌, eqb, leb, length, Option}
 use Rattle.exact.specs.Pick.{pick}
 use Rattle.lent.specs.Buffers.{told_in}
 use Rattle.numbers.specs.Numbers.{room_beside}
 use Rattle.ssl_reader.specs.Ssl.{Outcome, accepted, refused, Part, Said}
 use Rattle.ssl_reader.specs.Told.{part_start, part_size}
-use Rattle.ssl_writer.specs.declared.Present.{Present}
-use Rattle.ssl_writer.specs.Written.{Piece, ssl_value, ssl_answer}
+use Rattle.ssl_writer.specs.Written.{Piece, Present, ssl_value, ssl_answer}
 use Rattle.write_interface.specs.WriteInterface.{Writes}
 
 -- ── reading ──

@@ -1,57 +1,49 @@
-// The value of TLV 0x20 for C callers: what it says, and its writer (document 02, K2). No public function has a `requires`.
+// The value of TLV 0x20 for C callers: what it says, and its writer. No public function has a `requires`.
 #![tactic(auto)]
 
-ghost use Rattle.std.specs.Prelude.{◌≡◌};
+ghost use Rattle.std.specs.Prelude.{◌≡◌, ◌<◌, option_copied};
 ghost use Rattle.ssl_reader.specs.Ssl.{said_in};
 ghost use Rattle.ssl_reader.specs.Told.{part_start, part_size, told_outcome, told_ssl};
-ghost use Rattle.ssl_writer.specs.Written.{pieces_of};
-ghost use Rattle.ssl_interface.specs.SslInterface.{outcome_number, said_numbers, SslTold, present_of, WritesSsl};
+ghost use Rattle.ssl_writer.specs.Written.{piece_if, pieces_of};
+ghost use Rattle.ssl_interface.specs.SslInterface.{outcome_number, said_numbers, SslTold, is_there, present_of, WritesSsl};
 
 use numbers::{put_all, room_beside, tell_written};
 use ssl_reader::{Ssl, SslError, read_ssl};
-use ssl_writer::{Present, write_ssl};
+use ssl_writer::write_ssl;
 use tlv_step::Part;
 
 // How many numbers tell what a value says.
 const SSL_NUMBERS: usize = 12;
 
-// Where a piece starts; 0, if it is absent.
-fn piece_start(piece: Option<Part>) -> u64
-    ensures { result ≡ part_start piece }
+// Where a piece starts, and how long it is; an absent one is told as the empty piece at 0.
+fn span(piece: Option<Part>) -> (usize, usize)
+    ensures { (result.0 ≡ part_start piece) × (result.1 ≡ part_size piece) }
 {
-    match piece {
-        Some(part) => part.start as u64,
-        None => 0,
-    }
-}
-
-// How long a piece is; 0, if it is absent.
-fn piece_length(piece: Option<Part>) -> u64
-    ensures { result ≡ part_size piece }
-{
-    match piece {
-        Some(part) => part.size as u64,
-        None => 0,
-    }
+    piece.map_or((0, 0), |part| (part.start, part.size))
 }
 
 // The numbers that tell what a value says.
-fn numbers_of(said: &Ssl) -> [u64; 12]
+fn numbers_of(said: &Ssl) -> [u64; SSL_NUMBERS]
     ensures { result ≡ said_numbers (told_ssl (Ok said.now)) }
 {
+    let version = span(said.version);
+    let common_name = span(said.common_name);
+    let cipher = span(said.cipher);
+    let signature = span(said.signature);
+    let key = span(said.key);
     [
         said.client as u64,
         said.verify as u64,
-        piece_start(said.version),
-        piece_length(said.version),
-        piece_start(said.common_name),
-        piece_length(said.common_name),
-        piece_start(said.cipher),
-        piece_length(said.cipher),
-        piece_start(said.signature),
-        piece_length(said.signature),
-        piece_start(said.key),
-        piece_length(said.key),
+        version.0 as u64,
+        version.1 as u64,
+        common_name.0 as u64,
+        common_name.1 as u64,
+        cipher.0 as u64,
+        cipher.1 as u64,
+        signature.0 as u64,
+        signature.1 as u64,
+        key.0 as u64,
+        key.1 as u64,
     ]
 }
 
@@ -84,17 +76,12 @@ pub fn read(value: &[u8], numbers: &mut [u64]) -> u32
     }
 }
 
-// Which pieces the bits say are there: bit i is piece 0x21 + i, and higher bits are ignored.
-fn present_of(present: u8) -> Present
-    ensures { result ≡ present_of present }
+// A piece, if its bit says that it is there: bit i is piece 0x21 + i, and higher bits are ignored.
+fn piece_by(present: u8, i: u8, bytes: &[u8]) -> Option<&[u8]>
+    requires { i < 8 }
+    ensures { option_copied result ≡ piece_if (is_there i present) bytes.now }
 {
-    Present {
-        version: present % 2 == 1,
-        common_name: present / 2 % 2 == 1,
-        cipher: present / 4 % 2 == 1,
-        signature: present / 8 % 2 == 1,
-        key: present / 16 % 2 == 1,
-    }
+    (present >> i & 1 == 1).then_some(bytes)
 }
 
 // Writes a value, and tells its length; or answers why not, and leaves both buffers as they were.
@@ -113,19 +100,12 @@ pub fn write(
     ensures { WritesSsl client verify (pieces_of (present_of present) version.now common_name.now cipher.now signature.now key.now) out.old numbers.old result out.new numbers.new }
 {
     let room = room_beside(numbers.len(), out.len());
-    let there = present_of(present);
-    tell_written(
-        write_ssl(
-            client,
-            verify,
-            there,
-            version,
-            common_name,
-            cipher,
-            signature,
-            key,
-            &mut out[..room],
-        ),
-        numbers,
-    )
+    let pieces = [
+        piece_by(present, 0, version),
+        piece_by(present, 1, common_name),
+        piece_by(present, 2, cipher),
+        piece_by(present, 3, signature),
+        piece_by(present, 4, key),
+    ];
+    tell_written(write_ssl(client, verify, &pieces, &mut out[..room]), numbers)
 }

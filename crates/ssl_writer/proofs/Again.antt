@@ -162,7 +162,7 @@ module _ (value : List ℕ) (bytes : AllBytes value) (short : length value < 655
       record {
         answers = λ room fits. let h = no_longer in rw (versioned, lt-ltb (length (text_of value says)) 65536 (omega arith), le-leb (length (text_of value says)) room fits);
         reads =
-            reads_back (client_of value) (verify_of value) (part 0x21) (part 0x22) (part 0x23) (part 0x24) (part 0x25) small
+            reads_back (client_of value) (verify_of value) (pieces_in value (parts_of r.subs)) refl small
             (pieces_of_bytes value bytes (parts_of r.subs)) versioned (let h = no_longer in omega arith);
         within = no_longer;
         as_long =

@@ -104,33 +104,13 @@ piece_within client verify type (Some other ∷ front) bytes rest =
     let h = piece_within client verify (suc type) front bytes rest in omega arith
 
 -- ── the theorem ──
-module _ (client verify : ℕ) (a b c d e : Piece) where
-  abbrev pieces : List Piece
-  pieces = a ∷ b ∷ c ∷ d ∷ e ∷ []
-
+module _ (client verify : ℕ) (pieces : List Piece) where
   abbrev value : List ℕ
   value = ssl_value client verify pieces
 
-  pub reads_back : verify < 2 ^ 32 → OfBytes pieces → lacks_version client (is_absent a) ≡ false → length value < 65536
-      → ReadsAs value client verify pieces
-  reads_back small bytes version short =
-      let subs = subs_for 0x21 pieces in
-      let area : Area (drop 5 value) subs = (refl, proper 0x21 pieces (omega arith) bytes (omega arith)) in
-      let back = pieces_back value [] 0x21 pieces tt area in
-      let first : is_absent (part_of 0x21 subs) ≡ is_absent a = absent_same value (part_of 0x21 subs) ∙ ap (λ (l : List Piece). is_absent (get_or l 0 None)) back in
-      let said : said_in value ≡ record { outcome = accepted; client = client; verify = verify_of value; parts = parts_of subs } =
-      said_listed value (omega arith) subs area ∙ rw (first, version)
-      in
-      record {
-        outcome = ap (λ (s : Said). s.outcome) said;
-        client_same = ap (λ (s : Said). s.client) said;
-        verify_same = ap (λ (s : Said). s.verify) said ∙ number_network verify small;
-        pieces_same = ap (λ (s : Said). pieces_in value s.parts) said ∙ back;
-      }
-
   -- what is said where it is accepted
   pub record Taken (room n : ℕ) : Type 0 where
-    pub version : lacks_version client (is_absent a) ≡ false
+    pub version : lacks_version client (is_absent (get_or pieces 0 None)) ≡ false
     pub short : length value < 65536
     pub size : length value ≡ n
     pub fits : n ≤ room
@@ -138,7 +118,7 @@ module _ (client verify : ℕ) (a b c d e : Piece) where
   pub taken : (room n : ℕ) → ssl_answer client verify pieces room ≡ wrote n → Taken room n
   taken room n =
       let P : WriteAnswer → Type 0 = λ (x : WriteAnswer). x ≡ wrote n → Taken room n in
-      pick_by P (lacks_version client (is_absent a)) (λ t. not_wrote 20 n)
+      pick_by P (lacks_version client (is_absent (get_or pieces 0 None))) (λ t. not_wrote 20 n)
       (λ version.
       pick_by P (ltb (length value) 65536)
       (λ short.
@@ -149,15 +129,35 @@ module _ (client verify : ℕ) (a b c d e : Piece) where
       (λ t. not_wrote 14 n))
       (λ t. not_wrote 13 n))
 
-  -- "it reads back as them", in every output
-  pub written_back : verify < 2 ^ 32 → OfBytes pieces → (output after : List ℕ)
-      → after ≡ output_after (ssl_answer client verify pieces (length output)) value output
-      → ReadsBack client verify pieces (ssl_answer client verify pieces (length output)) after
-  written_back small bytes output after left = by (ssl_answer client verify pieces (length output)) refl
-    where
-      by : (x : WriteAnswer) → ssl_answer client verify pieces (length output) ≡ x → ReadsBack client verify pieces x after
-      by (wrote n) e =
-          let t = taken (length output) n e in
-          subst (λ (l : List ℕ). ReadsAs l client verify pieces) (sym (written_front value output after _ n e t.size left))
-          (reads_back small bytes t.version t.short)
-      by (refuses k) e = tt
+  module _ (five : length pieces ≡ 5) (small : verify < 2 ^ 32) where
+    pub reads_back : OfBytes pieces → lacks_version client (is_absent (get_or pieces 0 None)) ≡ false → length value < 65536
+        → ReadsAs value client verify pieces
+    reads_back bytes version short =
+        let subs = subs_for 0x21 pieces in
+        let area : Area (drop 5 value) subs = (refl, proper 0x21 pieces (omega (arith, five)) bytes (omega arith)) in
+        let back : pieces_in value (parts_of subs) ≡ pieces =
+        subst (λ (n : ℕ). pieces_in value (parts_from n 0x21 subs) ≡ pieces) five (pieces_back value [] 0x21 pieces tt area)
+        in
+        let first : is_absent (part_of 0x21 subs) ≡ is_absent (get_or pieces 0 None) = absent_same value (part_of 0x21 subs) ∙ ap (λ (l : List Piece). is_absent (get_or l 0 None)) back in
+        let said : said_in value ≡ record { outcome = accepted; client = client; verify = verify_of value; parts = parts_of subs } =
+        said_listed value (omega arith) subs area ∙ rw (first, version)
+        in
+        record {
+          outcome = ap (λ (s : Said). s.outcome) said;
+          client_same = ap (λ (s : Said). s.client) said;
+          verify_same = ap (λ (s : Said). s.verify) said ∙ number_network verify small;
+          pieces_same = ap (λ (s : Said). pieces_in value s.parts) said ∙ back;
+        }
+
+    -- "it reads back as them", in every output
+    pub written_back : OfBytes pieces → (output after : List ℕ)
+        → after ≡ output_after (ssl_answer client verify pieces (length output)) value output
+        → ReadsBack client verify pieces (ssl_answer client verify pieces (length output)) after
+    written_back bytes output after left = by (ssl_answer client verify pieces (length output)) refl
+      where
+        by : (x : WriteAnswer) → ssl_answer client verify pieces (length output) ≡ x → ReadsBack client verify pieces x after
+        by (wrote n) e =
+            let t = taken (length output) n e in
+            subst (λ (l : List ℕ). ReadsAs l client verify pieces) (sym (written_front value output after _ n e t.size left))
+            (reads_back bytes t.version t.short)
+        by (refuses k) e = tt

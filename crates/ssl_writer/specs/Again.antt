@@ -6,8 +6,7 @@ use Rattle.lookup.specs.Lookup.{index_of_first}
 use Rattle.answer.specs.Answers.{wrote}
 use Rattle.ssl_reader.specs.Ssl.{subs_of, is_absent, Said, pieces_in}
 use Rattle.ssl_reader.specs.declared.Ssl.{Ssl}
-use Rattle.ssl_writer.specs.declared.Present.{Present}
-use Rattle.ssl_writer.specs.Written.{ssl_value, ssl_answer}
+use Rattle.ssl_writer.specs.Written.{Present, ssl_value, ssl_answer}
 use Rattle.ssl_writer.specs.Writes.{ReadsAs}
 
 -- "without .. repeats or other types"

@@ -1,11 +1,11 @@
--- What the writer of TLV 0x20's value writes and answers: document 02, K2.
-use Rattle.std.specs.Prelude.{Bool, List, [], ◌∷◌, ◌++◌, ℕ, suc, length, get_or, Option, Some, None}
+-- What the writer of TLV 0x20's value writes and answers.
+use Rattle.std.specs.Prelude.{Bool, List, [], ◌∷◌, ◌++◌, ℕ, suc, length, map, get_or, Option, Some, None, option_copied}
+use Rattle.std.specs.Borrow.{Bor}
 use Rattle.exact.specs.Pick.{pick}
 use Rattle.network32.specs.Network32.{network32}
 use Rattle.tlv.specs.Tlv.{Tlv, written}
 use Rattle.answer.specs.Answers.{WriteAnswer, refuses, sized_answer}
 use Rattle.ssl_reader.specs.Ssl.{is_absent, lacks_version}
-use Rattle.ssl_writer.specs.declared.Present.{Present}
 
 -- a piece is present, with its bytes, or absent
 abbrev pub Piece : Type 0
@@ -13,6 +13,18 @@ Piece = Option (List ℕ)
 
 abbrev pub piece_if : Bool → List ℕ → Piece
 piece_if there bytes = pick there (Some bytes) None
+
+-- pieces as they are lent
+abbrev pub lent_pieces : List (Option (Bor (List ℕ))) → List Piece
+lent_pieces = map option_copied
+
+-- which of the five pieces are present
+pub record Present : Type 0 where
+  pub version : Bool
+  pub common_name : Bool
+  pub cipher : Bool
+  pub signature : Bool
+  pub key : Bool
 
 -- the five pieces, "in order of type": version, common name, cipher, signature algorithm, key algorithm
 abbrev pub pieces_of : Present → (version common_name cipher signature key : List ℕ) → List Piece

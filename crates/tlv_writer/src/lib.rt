@@ -13,16 +13,12 @@ pub fn put_tlv(tlv_type: u8, value: &[u8], out: &mut [u8], at: usize) -> usize
         × (out.new ≡ tlv_placed tlv_type value.now at out.old) }
 {
     let size = value.len();
-    if 65535 < size {
+    let needed = 3 + size;
+    if 65535 < size || out.len() < at || out.len() - at < needed {
         return at;
     }
-    if out.len() < at {
-        return at;
-    }
-    if out.len() - at < 3 + size {
-        return at;
-    }
-    let head = [tlv_type, (size / 256) as u8, (size % 256) as u8];
+    let [high, low] = (size as u16).to_be_bytes();
+    let head = [tlv_type, high, low];
     put(&head, out, at);
     put(value, out, at + 3);
     at + 3 + size
