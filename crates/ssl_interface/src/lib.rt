@@ -107,5 +107,8 @@ pub fn write(
         piece_by(present, 3, signature),
         piece_by(present, 4, key),
     ];
-    tell_written(write_ssl(client, verify, &pieces, &mut out[..room]), numbers)
+    tell_written(
+        write_ssl(client, verify, &pieces, &mut out[..room]),
+        numbers,
+    )
 }

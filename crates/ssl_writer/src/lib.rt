@@ -76,7 +76,12 @@ fn put_pieces(pieces: &[Option<&[u8]>; 5], out: &mut [u8])
 
 // Writes the value of a client, a verify number and the pieces that are there, of types 0x21 to 0x25: how many bytes, or why the output stays as it
 // was.
-pub fn write_ssl(client: u8, verify: u32, pieces: &[Option<&[u8]>; 5], out: &mut [u8]) -> Result<usize, Fault>
+pub fn write_ssl(
+    client: u8,
+    verify: u32,
+    pieces: &[Option<&[u8]>; 5],
+    out: &mut [u8],
+) -> Result<usize, Fault>
     ensures { Writes client verify (lent_pieces pieces.now) out.old (told_written result) out.new }
 {
     let n = check(client, pieces, out.len())?;

@@ -13,6 +13,6 @@ loop-piece-preserved c =
     let i = c.loop-piece.piece-index in (
       omega (arith, c.with_piece-size.ensures),
       size_stops c.with_piece-size.result _ (lent_pieces (drop (i + 1) pieces)) (omega (arith, c.with_piece-size.ensures))
-      ∙ sym (at_drop_more (λ l. min (size_from c.loop-piece.size (lent_pieces l)) 65536) pieces i None (omega arith))
-      ∙ c.loop-piece.invariant.1,
+          ∙ sym (at_drop_more (λ l. min (size_from c.loop-piece.size (lent_pieces l)) 65536) pieces i None (omega arith))
+          ∙ c.loop-piece.invariant.1,
     )
