@@ -1,16 +1,11 @@
 -- A connection's parts, put one behind the other.
 use Rattle.std.specs.Prelude.{◌≡◌, List, ◌++◌, ℕ, ◌≤◌, length, take}
-use Rattle.std.proofs.Common.{ap, ◌∙◌, arith, length-append, take_all}
-use Rattle.record.specs.Records.{held}
+use Rattle.std.proofs.Common.{◌∙◌, arith, length-append}
 use Rattle.lent.specs.Placed.{placed}
 use Rattle.lent.specs.Buffers.{over, told_in}
 use Rattle.lent.proofs.PlacedLaws.{placed_then, placed_front}
 use Rattle.lent.proofs.BufferLaws.{roomy}
 use Rattle.connection.specs.Connection.{connection_size}
-
--- an address that is no longer than what is held
-pub held_whole : (a : List ℕ) {h : List ℕ} → h ≡ held (take 108 a) → length a ≤ 108 → h ≡ held a
-held_whole a e few = e ∙ ap held (take_all 108 a few)
 
 pub put_parts : (a b c p q s d d₁ d₂ d₃ d₄ d₅ d₆ : List ℕ)
     → length a ≡ 1 → length b ≡ 108 → length c ≡ 108 → length p ≡ 2 → length q ≡ 2 → length s ≡ 1 → connection_size ≤ length d

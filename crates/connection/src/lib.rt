@@ -3,15 +3,16 @@
 // No public function has a `requires`.
 #![tactic(auto)]
 
-ghost use Rattle.std.specs.Prelude.{◌≡◌, ◌≤◌, length, drop};
-ghost use Rattle.record.specs.Records.{record_of, with_checksum};
+ghost use Rattle.std.specs.Prelude.{◌≡◌, ◌+◌, ◌≤◌, length, drop};
+ghost use Rattle.record.specs.Records.{held, record_of, with_checksum};
+ghost use Rattle.lent.specs.Placed.{placed};
 ghost use Rattle.address_block.specs.AddressBlock.{block_record};
 ghost use Rattle.answer.specs.Sight.{caller_record};
 ghost use Rattle.answer.specs.Headers.{header_of};
 ghost use Rattle.lent.specs.Buffers.{told_in};
 ghost use Rattle.connection.specs.Connection.{connection_size, connection_bytes};
 
-use address_block::{held, ports_of};
+use address_block::ports_of;
 use answer::{Caller, Sight};
 use kind_code::{code_of, state_byte};
 use lent::{behind, front, put};
@@ -31,6 +32,17 @@ struct Lent<'a> {
     checksum: Checksum,
 }
 
+static ZEROS: [u8; 108] = [0; 108];
+
+// Puts an address, and zeros behind it up to 108 bytes, at this place of the output: over zeros, since an array of them would take stack.
+fn put_address(address: &[u8], out: &mut [u8], at: usize)
+    requires { (length address.now ≤ 108) × (at + 108 ≤ length out.old) }
+    ensures { out.new ≡ placed (held address.now) at out.old }
+{
+    put(&ZEROS, out, at);
+    put(address, out, at);
+}
+
 // Puts the record's connection, where the output has room for it; else it stays as it is.
 fn put_connection(from: Lent, out: &mut [u8])
     requires { (length from.source.now ≤ 108) × (length from.destination.now ≤ 108) }
@@ -41,8 +53,8 @@ fn put_connection(from: Lent, out: &mut [u8])
         return;
     }
     put(&[code_of(from.kind)], out, 0);
-    put(&held(from.source), out, 1);
-    put(&held(from.destination), out, 109);
+    put_address(from.source, out, 1);
+    put_address(from.destination, out, 109);
     put(&from.source_port.to_be_bytes(), out, 217);
     put(&from.destination_port.to_be_bytes(), out, 219);
     put(&[state_byte(from.checksum)], out, 221);
