@@ -1,53 +1,81 @@
 -- What a partial address with "::" stands for, and where an address ends.
 use mathlib.Core.Path.{◌≡◌, refl, sym, ap, ap₂, ◌∙◌}
-use mathlib.Core.List.{List, [], ◌∷◌, ◌++◌, append_assoc}
-use Prim.Native.Nat.{ℕ, zero, suc, ◌+◌, ◌-◌, ◌≤◌}
+use mathlib.Core.List.{List, [], ◌∷◌, ◌++◌, append_assoc, append-nil}
+use Prim.Native.Nat.{ℕ, zero, suc, ◌+◌, ◌-◌, ◌≤◌, ◌<◌}
 use native.Mathlib.Omega.{arith}
-use lib.ListN.{length, take, drop, replicate, length-take, length-drop}
-use lib.Seq.{length-take-le, take_all, take-suc, take-take}
-use borrow.Rule.Slice.PartMut.{put_mid, same_len_mid}
-use Rattle.std.proofs.lemmas.List.{drop-drop, drop-take}
-use Rattle.std.proofs.lemmas.Slice.{take-put_mid}
+use lib.ListN.{length, take, drop, get_or, set, replicate, take-append-drop, drop_of_length-le, length-append, length-take, length-drop, length-replicate}
+use lib.Seq.{drop-cons, get_or_at, set_at, length-take-le, take_all, take-suc, take-take, get_or-take}
 use borrow.Author.Tests.{eq-eqb, ne_eqb}
 use Rattle.exact.specs.Machine.{done, dead}
 use Rattle.ip6.specs.Partial.{Partial, seen_at, gathered_of, Sized, spread_at, spread}
 use Rattle.ip6.specs.Address.{filled}
 use Rattle.ip6.specs.Machine.{finish}
 
+zeros_snoc : (m : ℕ) → ◌≡◌ {A = List ℕ} (0 ∷ replicate m 0) (replicate m 0 ++ 0 ∷ [])
+zeros_snoc zero = refl
+zeros_snoc (suc m) = ap (λ (l : List ℕ). 0 ∷ l) (zeros_snoc m)
+
 -- ── the groups behind "::" move to the end ──
+-- one that stands behind A moves behind the zeros
+move : (A D : List ℕ) (v j m : ℕ) → length A ≡ j
+    → set (set (A ++ v ∷ [] ++ replicate m 0 ++ D) j 0) (j + m) v ≡ A ++ replicate m 0 ++ v ∷ D
+move A D v j m n =
+    let here : A ++ v ∷ [] ++ replicate m 0 ++ D ≡ A ++ v ∷ (replicate m 0 ++ D) = simp append_assoc in
+    let zeros : 0 ∷ (replicate m 0 ++ D) ≡ replicate m 0 ++ 0 ∷ D =
+    ap (λ (l : List ℕ). l ++ D) (zeros_snoc m) ∙ append_assoc (replicate m 0) (0 ∷ []) D
+    in
+    let cleared : set (A ++ v ∷ [] ++ replicate m 0 ++ D) j 0 ≡ A ++ replicate m 0 ++ 0 ∷ D =
+    ap (λ (l : List ℕ). set l j 0) here ∙ set_at A v (replicate m 0 ++ D) 0 j n ∙ ap (λ (l : List ℕ). A ++ l) zeros
+    ∙ sym (append_assoc A (replicate m 0) (0 ∷ D))
+    in
+    ap (λ (l : List ℕ). set l (j + m) v) cleared
+    ∙ set_at (A ++ replicate m 0) 0 D v (j + m) (simp (length-append, length-replicate) (omega arith))
+
 module _ (groups : List ℕ) (n : ℕ) (size : length groups ≡ 8) (most : n ≤ 8) where
   held_length : length (take n groups) ≡ n
   held_length = length-take-le n groups (omega arith)
 
-  -- what stands from `gap` on is the groups behind "::", and zeros
-  module _ (gap : ℕ) (within : gap ≤ n) (rest : drop n groups ≡ replicate (8 - n) 0) where
-    abbrev part : List ℕ
-    part = take (8 - gap) (drop gap groups)
+  -- with the groups as they are, the zeros stand last
+  pub spread_none : drop n groups ≡ replicate (8 - n) 0 → groups ≡ spread_at groups n n
+  spread_none rest =
+      let none : drop n (take n groups) ≡ [] = drop_of_length-le (take n groups) {i = n} (let all = held_length in omega arith) in
+      sym (take-append-drop n groups) ∙ ap (λ (l : List ℕ). take n groups ++ l) rest ∙ sym (append-nil (take n groups ++ replicate (8 - n) 0))
+      ∙ ap (λ (l : List ℕ). take n groups ++ replicate (8 - n) 0 ++ l) (sym none)
 
-    part_all : part ≡ drop gap groups
-    part_all = let d = length-drop gap groups in take_all (8 - gap) (drop gap groups) (omega arith)
+  -- the group at j moves behind the zeros
+  module _ (j : ℕ) (m : j < n) where
+    abbrev rest : List ℕ
+    rest = drop (suc j) (take n groups)
 
-    turn : length part - (8 - n) ≡ n - gap
-    turn = let e = ap length part_all in let d = length-drop gap groups in omega arith
+    front : length (take j groups) ≡ j
+    front = length-take-le j groups (omega arith)
 
-    n_is : gap + (n - gap) ≡ n
-    n_is = omega arith
+    opened : spread_at groups n (suc j) ≡ take j groups ++ get_or groups j 0 ∷ [] ++ replicate (8 - n) 0 ++ rest
+    opened = ap (λ (l : List ℕ). l ++ replicate (8 - n) 0 ++ rest) (take-suc groups j 0 (omega arith))
 
-    turned : drop (length part - (8 - n)) part ++ take (length part - (8 - n)) part ≡ replicate (8 - n) 0 ++ drop gap (take n groups)
-    turned =
-        rw (turn, part_all)
-        (ap₂ ◌++◌ (drop-drop (n - gap) gap groups ∙ ap (λ (k : ℕ). drop k groups) n_is ∙ rest)
-        (sym (drop-take gap (n - gap) groups) ∙ ap (λ (k : ℕ). drop gap (take k groups)) n_is))
+    last : get_or (spread_at groups n (suc j)) j 0 ≡ get_or groups j 0
+    last =
+        let here : spread_at groups n (suc j) ≡ take j groups ++ get_or groups j 0 ∷ (replicate (8 - n) 0 ++ rest) = opened ∙ simp append_assoc in
+        ap (λ (l : List ℕ). get_or l j 0) here
+        ∙ get_or_at (take j groups) (get_or groups j 0) (replicate (8 - n) 0 ++ rest) 0 j front
 
-    pub spread_turned : (new : List ℕ) → length new ≡ length part → new ≡ drop (length part - (8 - n)) part ++ take (length part - (8 - n)) part
-        → put_mid gap (8 - gap) groups new ≡ spread_at groups n gap
-    spread_turned new len e =
-        let d = length-drop gap groups in
-        let a = ap length part_all in
-        sym (take_all 8 (put_mid gap (8 - gap) groups new) (let same = same_len_mid gap (8 - gap) groups new len in omega arith))
-        ∙ take-put_mid gap (8 - gap) groups new 8 (omega arith) (omega arith)
-        ∙ ap (λ (l : List ℕ). take gap groups ++ l) (e ∙ turned)
-        ∙ sym (append_assoc (take gap groups) (replicate (8 - n) 0) (drop gap (take n groups)))
+    behind : get_or groups j 0 ∷ rest ≡ drop j (take n groups)
+    behind =
+        let all = held_length in
+        sym (drop-cons (take n groups) j 0 (omega arith) ∙ ap (λ (v : ℕ). v ∷ rest) (get_or-take n groups j 0 m))
+
+    move_suc : set (set (spread_at groups n (suc j)) j 0) (j + (8 - n)) (get_or (spread_at groups n (suc j)) j 0) ≡ spread_at groups n j
+    move_suc =
+        ap₂ (λ (l : List ℕ) (v : ℕ). set (set l j 0) (j + (8 - n)) v) opened last
+        ∙ move (take j groups) rest (get_or groups j 0) j (8 - n) front
+        ∙ ap (λ (l : List ℕ). take j groups ++ replicate (8 - n) 0 ++ l) behind
+
+  pub spread_move : (l : List ℕ) (i : ℕ) → 0 < i → i ≤ n → l ≡ spread_at groups n i
+      → set (set l (i - 1) 0) (i - 1 + (8 - n)) (get_or l (i - 1) 0) ≡ spread_at groups n (i - 1)
+  spread_move l i some m e =
+      let next : i ≡ suc (i - 1) = omega arith in
+      let at : l ≡ spread_at groups n (suc (i - 1)) = e ∙ ap (λ (k : ℕ). spread_at groups n k) next in
+      ap (λ (k : List ℕ). set (set k (i - 1) 0) (i - 1 + (8 - n)) (get_or k (i - 1) 0)) at ∙ move_suc (i - 1) (omega arith)
 
 -- ── where an address ends ──
 module _ (x : Partial) (h : Sized x) where

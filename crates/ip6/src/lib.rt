@@ -19,12 +19,20 @@ use colon_part::{Part, colon_part, least_behind};
 use exact::Scan;
 use hex_digits::hex_value;
 
-// Zeros for all that "::" stands for: the groups behind it change places with those that are not there.
+// Zeros for all that "::" stands for: the groups behind it move to the end, the last one first. The loop stays: std's `rotate_right` keeps
+// 4 KB of stack ready, and include/dawnhawse.h promises C callers less.
 fn spread_out(groups: &mut [u16; 8], count: usize, gap: usize)
     requires { Sized (sofar groups.old count gap) }
     ensures { groups.new ≡ spread (sofar groups.old count gap) }
 {
-    groups[gap..].rotate_right(8 - count);
+    let missing = 8 - count;
+    let mut i = count;
+    while gap < i {
+        i -= 1;
+        let v = groups[i];
+        groups[i] = 0;
+        groups[i + missing] = v;
+    }
 }
 
 // The address ends at place i.
