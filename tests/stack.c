@@ -244,6 +244,7 @@ int main(void)
         "PROXY TCP4 255.255.255.255 255.255.255.255 65535 65535\r\n",
         "PROXY TCP6 ffff:ffff:ffff:ffff:ffff:ffff:ffff:ffff ffff:ffff:ffff:ffff:ffff:ffff:ffff:ffff 65535 65535\r\n",
         "PROXY TCP6 1:2:3:4::5:6:7 :: 0 1\r\n",
+        "PROXY TCP6 1::2 ::3:4:5 0 1\r\n",
         "PROXY UNKNOWN and whatever follows\r\n",
     };
 
