@@ -23,7 +23,7 @@ fn span(piece: Option<Part>) -> (usize, usize)
 }
 
 // The numbers that tell what a value says.
-fn numbers_of(said: &Ssl) -> [u64; SSL_NUMBERS]
+fn numbers_of(said: &Ssl) -> [u64; 12]
     ensures { result ≡ said_numbers (told_ssl (Ok said.now)) }
 {
     let version = span(said.version);
