@@ -23,7 +23,7 @@
  *   dawnhawse_next                  64   nothing: one TLV is looked at
  *   dawnhawse_step                  64   the TLVs from the place to the end of the area, each looked at once
  *   dawnhawse_lookup                64   the TLVs of the area, each looked at once, and those examined once more
- *   dawnhawse_read_ssl             192   the sub-TLVs of the value, each looked at once
+ *   dawnhawse_read_ssl             128   the sub-TLVs of the value, each looked at once
  *   dawnhawse_write_ssl            256   the bytes written
  *   dawnhawse_write_v1            1600   nothing: at most 104 bytes are written
  *   dawnhawse_write_v2            1216   the TLVs of the area, each looked at once, and the bytes written
@@ -46,10 +46,10 @@
 #include <stdint.h>
 
 /* The release of the library; README says what each of its numbers counts. */
-#define DAWNHAWSE_RELEASE "0.8.2"
+#define DAWNHAWSE_RELEASE "0.8.3"
 #define DAWNHAWSE_RELEASE_MAJOR 0
 #define DAWNHAWSE_RELEASE_MINOR 8
-#define DAWNHAWSE_RELEASE_PATCH 2
+#define DAWNHAWSE_RELEASE_PATCH 3
 
 #ifdef __cplusplus
 extern "C" {

@@ -1,3 +1,4 @@
 pub mod NoteLaws
 pub mod Laws
 pub mod Noted
+pub mod Turn

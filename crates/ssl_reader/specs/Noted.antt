@@ -1,8 +1,15 @@
 -- For proofs. The pieces where one more sub-TLV is noted: the first of its type counts.
-use Rattle.std.specs.Prelude.{List, [], ◌∷◌, ℕ, suc, ◌+◌, eqb, length, Option, Some, None}
+use Rattle.std.specs.Prelude.{List, [], ◌∷◌, ℕ, suc, ◌+◌, eqb, length, map, Option, Some, None}
 use Rattle.exact.specs.Pick.{pick}
 use Rattle.tlv.specs.Tlv.{Tlv, written}
 use Rattle.ssl_reader.specs.Ssl.{Part}
+
+-- a piece as it is noted; none starts at 0
+abbrev pub found_part : Part → Option Part
+found_part p = pick (eqb p.start 0) None (Some p)
+
+abbrev pub found_parts : List Part → List (Option Part)
+found_parts = map found_part
 
 -- the part that was there first, or else this one
 abbrev pub or_part : Option Part → Part → Option Part

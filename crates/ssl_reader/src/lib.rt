@@ -1,14 +1,14 @@
 // The inside of TLV 0x20: what a TLS front end said of its client. No public function has a `requires`.
 #![tactic(auto)]
 
-ghost use Rattle.std.specs.Prelude.{◌≡◌};
+ghost use Rattle.std.specs.Prelude.{◌≡◌, ◌<◌};
 ghost use Rattle.ssl_reader.specs.Ssl.{lacks_version, said_in};
 ghost use Rattle.ssl_reader.specs.Told.{told_ssl, PartOf};
-ghost use Rattle.ssl_reader.specs.Noted.{noted};
+ghost use Rattle.ssl_reader.specs.Noted.{found_part, found_parts, noted};
 
 use lent::{behind, front};
 use network32::network_number;
-use tlv_step::{IllFormed, Part, TlvArea};
+use tlv_step::{IllFormed, Part, head_at};
 
 /// Why a value is not read.
 #[derive(Clone, Copy)]
@@ -43,9 +43,11 @@ pub struct Ssl {
     pub key: Option<Part>,
 }
 
-// Notes a sub-TLV among the five pieces: the first of its type is the piece; other types and repeated ones are passed over.
-fn note(pieces: &mut [Option<Part>; 5], tlv_type: u8, value: Part)
-    ensures { pieces.new ≡ noted tlv_type value 0x21 pieces.old }
+// Notes a sub-TLV among the five pieces: the first of its type is the piece; other types and repeated ones are passed over. A piece that starts at 0 is
+// not there yet, since no value starts there: five `Option<Part>` take half as much stack again.
+fn note(pieces: &mut [Part; 5], tlv_type: u8, value: Part)
+    requires { 0 < value.start }
+    ensures { found_parts pieces.new ≡ noted tlv_type value 0x21 (found_parts pieces.old) }
 {
     if tlv_type < 0x21 {
         return;
@@ -54,10 +56,17 @@ fn note(pieces: &mut [Option<Part>; 5], tlv_type: u8, value: Part)
     if pieces.len() <= i {
         return;
     }
-    if pieces[i].is_some() {
+    if pieces[i].start != 0 {
         return;
     }
-    pieces[i] = Some(value);
+    pieces[i] = value;
+}
+
+// The piece that was noted, if there is one.
+fn found(piece: Part) -> Option<Part>
+    ensures { result ≡ found_part piece }
+{
+    (piece.start != 0).then_some(piece)
 }
 
 /// Whether a client with bit 0x01 has no version.
@@ -71,16 +80,18 @@ pub fn lacks_version(client: u8, absent: bool) -> bool
 pub fn read_ssl(value: &[u8]) -> Result<Ssl, SslError>
     ensures { told_ssl result ≡ said_in value.now }
 {
-    let [client, a, b, c, d, subs @ ..] = value else {
+    let [client, a, b, c, d, ..] = value else {
         return Err(SslError::IllFormed);
     };
-    let mut pieces = [None; 5];
-    for tlv in TlvArea::new(subs)?.tlvs() {
-        let start = 5 + tlv.value.start;
-        let size = tlv.value.size;
-        note(&mut pieces, tlv.tlv_type, Part { start, size });
+    let mut pieces = [Part { start: 0, size: 0 }; 5];
+    let mut at = 5;
+    // A loop over places: the TLVs of an area that was tested would look at each sub-TLV twice.
+    while let Some(tlv) = head_at(value, at)? {
+        note(&mut pieces, tlv.tlv_type, tlv.value);
+        at = tlv.value.start + tlv.value.size;
     }
     let [version, common_name, cipher, signature, key] = pieces;
+    let version = found(version);
     if lacks_version(*client, version.is_none()) {
         return Err(SslError::NoVersion);
     }
@@ -88,10 +99,10 @@ pub fn read_ssl(value: &[u8]) -> Result<Ssl, SslError>
         client: *client,
         verify: network_number(*a, *b, *c, *d),
         version,
-        common_name,
-        cipher,
-        signature,
-        key,
+        common_name: found(common_name),
+        cipher: found(cipher),
+        signature: found(signature),
+        key: found(key),
     })
 }
 
