@@ -60,13 +60,10 @@ pub fn in_order(
 fn check(from: Record, area: &[u8], room: usize) -> Result<usize, Fault>
     ensures { told_written result ≡ block_answer from area.now room }
 {
-    in_order(
-        plain(from),
-        area_fits(from.kind, area),
-        block_length(from.kind),
-        area.len(),
-        room,
-    )
+    let good = plain(from);
+    // The area may be long: it is looked at for a record that is good.
+    let fits = good && area_fits(from.kind, area);
+    in_order(good, fits, block_length(from.kind), area.len(), room)
 }
 
 // Puts a header's first sixteen bytes, with this size of the block, its address block, and the area behind it at the front of the output; each part

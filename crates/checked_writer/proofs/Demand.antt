@@ -1,5 +1,5 @@
 -- Lemmas on what specs/Demand.antt defines.
-use Rattle.std.specs.Prelude.{◌≡◌, true, ℕ, ◌≤◌, ◌<◌, length, replicate}
+use Rattle.std.specs.Prelude.{◌≡◌, Bool, true, false, ℕ, ◌≤◌, ◌<◌, length, replicate}
 use Rattle.std.proofs.Math.Path.{refl, sym, ap, ap₂}
 use Rattle.std.proofs.Common.{◌∙◌, subst, arith, length-append, le-leb, lt-ltb}
 use mathlib.Core.List.{List, [], ◌∷◌, ◌++◌, append_assoc, append-nil}
@@ -27,9 +27,9 @@ use Rattle.checksum.specs.Checksum.{values_of, zeroed, checksum_of, Right}
 use Rattle.checksum.proofs.ChecksumLaws.{values_append, zeroed_one, checksum_parts}
 use Rattle.checksum.specs.Checked.{judged, Checks, matched}
 use Rattle.block_writer.specs.Written.{block_of, written_block, CarriedByBlock}
-use Rattle.block_writer.proofs.OrderLaws.{in_order_lem, in_order_within}
+use Rattle.block_writer.proofs.OrderLaws.{in_order_lem, in_order_within, block_within}
 use Rattle.block_writer.proofs.Demand.{block_read}
-use Rattle.checked_writer.specs.Written.{with_tlv, checksum_for, checked_area, written_checked, request_test, CarriedChecked, checked_answer}
+use Rattle.checked_writer.specs.Written.{with_tlv, checksum_for, checked_area, written_checked, request_test, CarriedChecked, checked_answer, header_answer}
 use Rattle.checked_writer.proofs.RequestLaws.{request_test_lem}
 use Rattle.checked_writer.specs.Demand.{Means, ReadsBack, no_request, too_large, too_short, unused, written}
 
@@ -166,3 +166,7 @@ reads_back r area before after sized output n is t =
 -- what is written fits the room
 pub checked_within : (r : Record) (area : List ℕ) (room : ℕ) → Within room (checked_answer r area room)
 checked_within r area = in_order_within (clean_test r) (request_test r.kind area) (length (block_of r (checked_area r area))) (length (written_checked r area))
+
+pub header_within : (request : Bool) (r : Record) (area : List ℕ) (room : ℕ) → Within room (header_answer request r area room)
+header_within true = checked_within
+header_within false = block_within

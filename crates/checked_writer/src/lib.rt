@@ -31,13 +31,10 @@ fn request_fits(kind: Kind, area: &[u8]) -> bool
 fn check(from: Record, area: &[u8], room: usize) -> Result<usize, Fault>
     ensures { told_written result ≡ checked_answer from area.now room }
 {
-    in_order(
-        clean(from),
-        request_fits(from.kind, area),
-        block_length(from.kind) + 7,
-        area.len(),
-        room,
-    )
+    let good = clean(from);
+    // The area may be long: it is looked at for a record that is good.
+    let fits = good && request_fits(from.kind, area);
+    in_order(good, fits, block_length(from.kind) + 7, area.len(), room)
 }
 
 // Writes the record with the TLV area and a checksum TLV behind its address block: how many bytes, or why the output stays as it was.
@@ -56,7 +53,7 @@ pub fn write_checked(from: Record, area: &[u8], out: &mut [u8]) -> Result<usize,
     Ok(n)
 }
 
-// Writes a version 2 header, with a checksum on request. (The switch stays for callers in Rattle: docs/TRACE.md names `write_header`.)
+// Writes a version 2 header, with a checksum on request.
 pub fn write_header(
     from: Record,
     area: &[u8],
