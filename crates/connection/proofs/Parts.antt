@@ -1,5 +1,5 @@
 -- A connection's parts, put one behind the other.
-use Rattle.std.specs.Prelude.{◌≡◌, List, ◌++◌, ℕ, ◌≤◌, length, take}
+use Rattle.std.specs.Prelude.{◌≡◌, List, ◌++◌, ℕ, ◌≤◌, length}
 use Rattle.std.proofs.Common.{◌∙◌, arith, length-append}
 use Rattle.lent.specs.Placed.{placed}
 use Rattle.lent.specs.Buffers.{over, told_in}

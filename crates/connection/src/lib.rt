@@ -4,7 +4,8 @@
 #![tactic(auto)]
 
 ghost use Rattle.std.specs.Prelude.{◌≡◌, ◌+◌, ◌≤◌, length, drop};
-ghost use Rattle.record.specs.Records.{held, record_of, with_checksum};
+ghost use Rattle.record.specs.declared.Kind.TheVariants.{Unspecified};
+ghost use Rattle.record.specs.Records.{bare, held, record_of, with_checksum};
 ghost use Rattle.lent.specs.Placed.{placed};
 ghost use Rattle.address_block.specs.AddressBlock.{block_record};
 ghost use Rattle.answer.specs.Sight.{caller_record};
@@ -102,6 +103,22 @@ pub fn put_sight(bytes: &[u8], sight: &Sight, out: &mut [u8])
         Sight::Line(line) => put_caller(&line.value, out),
         Sight::Block(block) => put_block(block.value, bytes, out),
     }
+}
+
+// Puts the connection of no header, where the output has room for it; else it stays as it is. No record is made for it, since most bytes that come
+// piece by piece are no header yet.
+pub fn put_none(out: &mut [u8])
+    ensures { out.new ≡ told_in connection_size (connection_bytes (bare Unspecified)) out.old }
+{
+    let from = Lent {
+        kind: Kind::Unspecified,
+        source: &[],
+        destination: &[],
+        source_port: 0,
+        destination_port: 0,
+        checksum: Checksum::Absent,
+    };
+    put_connection(from, out);
 }
 
 // Puts a record's connection, where the output has room for it; else it stays as it is.

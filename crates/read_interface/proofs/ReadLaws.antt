@@ -22,7 +22,6 @@ use Rattle.answer.specs.Headers.{told_header, told_stop}
 use Rattle.area.specs.Area.{span_start, span_end}
 use Rattle.area.proofs.AreaLaws.{span_inside, span_part}
 use Rattle.numbers.specs.Numbers.{numbers_size, four_of, header_told, stop_told}
-use Rattle.record.specs.declared.Record.{Record}
 use Rattle.numbers.specs.declared.Told.{Told}
 use Rattle.lent.specs.Buffers.{over, told_in}
 use Rattle.lent.proofs.BufferLaws.{roomy}

@@ -12,12 +12,11 @@ ghost use Rattle.read_interface.specs.LoadInterface.{LoadTold};
 
 use answer::Sight;
 use checked_reader::check_header;
-use connection::{CONNECTION, put_record, put_sight};
+use connection::{CONNECTION, put_none, put_record, put_sight};
 use kind_code::state_byte;
 use lent::front;
 use numbers::{NUMBERS, Told, outcome_number, put_numbers};
 use reader::sight;
-use record::{Kind, blank};
 use stored_form::StoredVersion;
 
 // What a header tells that is seen in size bytes.
@@ -47,7 +46,7 @@ pub fn read(bytes: &[u8], numbers: &mut [u64], connection: &mut [u8]) -> u32
             0
         }
         Err(stop) => {
-            put_record(blank(Kind::Unspecified), connection);
+            put_none(connection);
             let told = Told::stop(stop);
             told.put(numbers);
             told.answer
@@ -70,7 +69,7 @@ pub fn read_checked(bytes: &[u8], numbers: &mut [u64], connection: &mut [u8]) ->
             0
         }
         None => {
-            put_record(blank(Kind::Unspecified), connection);
+            put_none(connection);
             put_numbers(numbers, 0, 0, 0, 0);
             23
         }
@@ -86,6 +85,9 @@ pub fn load(stored: &[u8], version: StoredVersion, connection: &mut [u8]) -> u32
     }
     let loaded = load::load(stored, version);
     let number = outcome_number(&loaded);
-    put_record(loaded.unwrap_or(blank(Kind::Unspecified)), connection);
+    match loaded {
+        Ok(from) => put_record(from, connection),
+        Err(_) => put_none(connection),
+    }
     number
 }

@@ -1,8 +1,5 @@
 -- The reading answers the verdict, `tell` tells its numbers, and the two buffers are written where both have room.
-use Rattle.std.proofs.Common.{arith, ap, ◌∙◌}
-use Rattle.record.specs.declared.Record.{Record}
-use Rattle.lent.specs.Buffers.{told_in}
-use Rattle.connection.specs.Connection.{connection_size, connection_bytes}
+use Rattle.std.proofs.Common.{arith}
 use Rattle.answer.specs.Headers.{header_of}
 use Rattle.fields.proofs.HeaderVerdict.{verdict}
 use Rattle.read_interface.specs.ReadInterface.{spoken}
@@ -30,6 +27,6 @@ returns-in-Ok c =
 pub returns-in-Err : goal.returns-in-Err
 returns-in-Err c =
     let x = c.args in
-    written_stop x.bytes.now x.numbers.now x.connection.now c.put-in-Err.new.out c.put_record.new.out (omega arith) (omega arith) c.stop-told.result
+    written_stop x.bytes.now x.numbers.now x.connection.now c.put-in-Err.new.out c.put_none.new.out (omega arith) (omega arith) c.stop-told.result
     c.put-in-Err.ensures (verdict x.bytes.now) c.in-Err.stop c.in-Err.ensures.answers c.stop-told.ensures
-    (c.put_record.ensures ∙ ap (λ (r : Record). told_in connection_size (connection_bytes r) x.connection.now) c.blank.ensures)
+    c.put_none.ensures

@@ -2,15 +2,12 @@
 use Rattle.std.proofs.Common.{◌≡◌, sym, ap, ap₂, ◌∙◌, subst, List, ℕ, ◌-◌, arith, length, take, get_or}
 use Rattle.std.specs.Prelude.{Option}
 use Rattle.record.specs.declared.Checksum.{Checksum}
-use Rattle.record.specs.declared.Record.{Record}
-use Rattle.lent.specs.Buffers.{told_in}
-use Rattle.connection.specs.Connection.{connection_size, connection_bytes}
 use Rattle.fields.proofs.HeaderVerdict.{verdict}
 use Rattle.checksum.specs.State.{state_from, state_on}
 use Rattle.read_interface.specs.ReadInterface.{spoken, ReadTold}
 use Rattle.read_interface.proofs.AcceptedTold.{AcceptedTold, accepted_told, long_numbers, long_connection}
 use Rattle.read_interface.proofs.CheckedLaws.{passed_on, state_told, state_written, wrong_written}
-use Rattle.read_interface.proofs.read_checked.Goals.{After-blank, After-check_header, After-put_numbers, After-put_record, After-read-answer, Else-answer-ne0, Start}
+use Rattle.read_interface.proofs.read_checked.Goals.{After-check_header, After-put_none, After-put_numbers, After-read-answer, Else-answer-ne0, Start}
 use Rattle.read_interface.proofs.read_checked.Goals as goal
 
 pub returns-then-answer-ne0 : goal.returns-then-answer-ne0
@@ -92,11 +89,9 @@ returns-in-Some c =
 pub returns-in-None : goal.returns-in-None
 returns-in-None c =
     let put = (goal.at.returns-in-None c).After-put_numbers in
-    let connected = (goal.at.After-put_numbers put).After-put_record in
-    let blanked = (goal.at.After-put_record connected).After-blank in
-    let checked = (goal.at.After-blank blanked).After-check_header in
+    let connected = (goal.at.After-put_numbers put).After-put_none in
+    let checked = (goal.at.After-put_none connected).After-check_header in
     let e = d checked in
-    wrong_written (bytes e) (numbers e) (connection e) (numbers_left e) (connection_left e) (a e) _ _ (state checked _ blanked.in-None.is)
+    wrong_written (bytes e) (numbers e) (connection e) (numbers_left e) (connection_left e) (a e) _ _ (state checked _ connected.in-None.is)
     put.put_numbers.ensures
-    (connected.put_record.ensures
-    ∙ ap (λ (r : Record). told_in connection_size (connection_bytes r) (connection_left e)) blanked.blank.ensures)
+    connected.put_none.ensures
