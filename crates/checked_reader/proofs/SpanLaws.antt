@@ -9,7 +9,6 @@ use lib.Dec.{eqb}
 use lib.ListN.{length, take, drop}
 use lib.Seq.{take-add, drop_at, length-take-le}
 use Rattle.exact.specs.Pick.{pick}
-use Rattle.tlv.specs.Tlv.{WellFormed}
 use Rattle.tlv.specs.Test.{well_formed}
 use Rattle.tlv.proofs.Test.{well_formed_tested}
 use Rattle.tlv.specs.Listed.{tlvs_of}

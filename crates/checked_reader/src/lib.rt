@@ -16,7 +16,7 @@ use crc::crc32c_cleared;
 use lent::{behind, front};
 use lookup::{Answer, Examined, lookup};
 use reader::read;
-use record::{Checksum, Record};
+use record::{Checksum, with_checksum};
 use tlv_count::has_none;
 use tlv_step::IllFormed;
 
@@ -91,10 +91,7 @@ pub fn read_checked(s: &[u8]) -> Result<Header, CheckedStop>
     let area = span_of(header.length, header.version, header.record.kind, s.len());
     match check_header(front(s, area.end), area.start) {
         Some(checksum) => Ok(Header {
-            record: Record {
-                checksum,
-                ..header.record
-            },
+            record: with_checksum(header.record, checksum),
             ..header
         }),
         None => Err(CheckedStop::WrongChecksum),

@@ -10,7 +10,7 @@ ghost use Rattle.stored_form.specs.Meaning.{LoadMeans};
 use address_block::addresses_of;
 use clean::clean_state;
 use kind_code::{kind_of, state_of};
-use record::{Checksum, Kind, Record, blank, block_length};
+use record::{Checksum, Kind, Record, blank, block_length, with_checksum};
 use stored_form::{Flaw, StoredVersion, head_length, version_byte};
 
 fn has_mark(s: &[u8]) -> bool
@@ -53,10 +53,7 @@ fn load_block(
     if s.len() != size {
         return Err(Flaw::Length);
     }
-    *into = Record {
-        checksum,
-        ..addresses_of(kind, &s[n..])
-    };
+    *into = with_checksum(addresses_of(kind, &s[n..]), checksum);
     Ok(())
 }
 

@@ -13,8 +13,7 @@ ghost use Rattle.stored_form.specs.Stored.{stored, store_answer};
 ghost use Rattle.write_interface.specs.WriteInterface.{WritesAsked, WritesConverted};
 
 use answer::Fault;
-use block_writer::write_block;
-use checked_writer::write_checked;
+use checked_writer::write_header;
 use line_writer::write_line;
 use numbers::{room_beside, tell_converted, tell_written};
 use record::Record;
@@ -60,42 +59,26 @@ impl Form for Line {
     ghost within = { λ form. line_within };
 }
 
-// The version 2 header with this TLV area.
+// The version 2 header with this TLV area, and a checksum last in it on request.
 #[derive(Clone, Copy)]
-struct Header<'a>(&'a [u8]);
-
-impl<'a> Form for Header<'a> {
-    ghost use Rattle.block_writer.specs.Written.{block_answer, written_block};
-    ghost use Rattle.block_writer.proofs.OrderLaws.{block_within};
-
-    ghost answer = { λ form r. block_answer r form.0.now };
-
-    ghost text = { λ form r. written_block r form.0.now };
-
-    fn write(&self, from: Record, out: &mut [u8]) -> Result<usize, Fault> {
-        write_block(from, self.0, out)
-    }
-
-    ghost within = { λ form r room. block_within r form.0.now room };
+struct Header<'a> {
+    area: &'a [u8],
+    request: bool,
 }
 
-// The same with a checksum, last in the area.
-#[derive(Clone, Copy)]
-struct Checked<'a>(&'a [u8]);
+impl<'a> Form for Header<'a> {
+    ghost use Rattle.checked_writer.specs.Written.{header_answer, header_text};
+    ghost use Rattle.checked_writer.proofs.Demand.{header_within};
 
-impl<'a> Form for Checked<'a> {
-    ghost use Rattle.checked_writer.specs.Written.{checked_answer, written_checked};
-    ghost use Rattle.checked_writer.proofs.Demand.{checked_within};
+    ghost answer = { λ form r. header_answer form.request r form.area.now };
 
-    ghost answer = { λ form r. checked_answer r form.0.now };
-
-    ghost text = { λ form r. written_checked r form.0.now };
+    ghost text = { λ form r. header_text form.request r form.area.now };
 
     fn write(&self, from: Record, out: &mut [u8]) -> Result<usize, Fault> {
-        write_checked(from, self.0, out)
+        write_header(from, self.area, self.request, out)
     }
 
-    ghost within = { λ form r room. checked_within r form.0.now room };
+    ghost within = { λ form r room. header_within form.request r form.area.now room };
 }
 
 // The stored form of this version.
@@ -140,14 +123,22 @@ pub fn write_v1(connection: &[u8], out: &mut [u8], numbers: &mut [u64]) -> u32
 pub fn write_v2(connection: &[u8], area: &[u8], out: &mut [u8], numbers: &mut [u64]) -> u32
     ensures { WritesAsked (λ (c : Record). block_answer c area.now) (λ (c : Record). written_block c area.now) connection.now out.old numbers.old result out.new numbers.new }
 {
-    write(&Header(area), connection, out, numbers)
+    let plain = Header {
+        area,
+        request: false,
+    };
+    write(&plain, connection, out, numbers)
 }
 
 // The same with a checksum, last in the area.
 pub fn write_v2_checked(connection: &[u8], area: &[u8], out: &mut [u8], numbers: &mut [u64]) -> u32
     ensures { WritesAsked (λ (c : Record). checked_answer c area.now) (λ (c : Record). written_checked c area.now) connection.now out.old numbers.old result out.new numbers.new }
 {
-    write(&Checked(area), connection, out, numbers)
+    let checked = Header {
+        area,
+        request: true,
+    };
+    write(&checked, connection, out, numbers)
 }
 
 // Stores a connection in a version; else as `write_v1`.

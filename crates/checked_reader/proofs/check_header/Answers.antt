@@ -1,6 +1,6 @@
 -- The first 0x03 TLV that the lookup finds says what the checksum does; where it finds none, there is none or TLVs do not fill the area.
 use Rattle.std.specs.Prelude.{Some, Ok}
-use Rattle.std.proofs.Common.{rules, ◌≡◌, sym, ap, ◌∙◌, subst, List, ◌++◌, ℕ, arith, take, drop, take-append-drop}
+use Rattle.std.proofs.Common.{rules, ◌≡◌, sym, ap, ◌∙◌, subst, List, ◌++◌, ℕ, arith, take, take-append-drop}
 use Rattle.exact.specs.Pick.{pick}
 use Rattle.tlv.specs.Test.{well_formed}
 use Rattle.tlv.specs.Listed.{tlvs_of}

@@ -1,9 +1,8 @@
 -- `read` ensures the verdict and `check_header` the state; the answer is the one that is claimed.
-use Rattle.std.specs.Prelude.{Option, Some, None, Result, Ok, Err}
-use Rattle.std.proofs.Common.{◌≡◌, refl, sym, ap, ◌∙◌, subst, List, ℕ, length, take}
+use Rattle.std.specs.Prelude.{Option, Ok, Err}
+use Rattle.std.proofs.Common.{◌≡◌, sym, ap, ◌∙◌, subst, List, ℕ, length, take}
 use Rattle.std.proofs.lemmas.Result.{err_from_is_err_and}
 use Rattle.record.specs.declared.Checksum.{Checksum}
-use Rattle.fields.proofs.HeaderVerdict.{verdict}
 use Rattle.answer.specs.declared.Header.{Header}
 use Rattle.answer.specs.declared.Stop.{Stop}
 use Rattle.answer.specs.declared.Stop.TheVariants.{More, Refused}
@@ -48,8 +47,9 @@ returns-in_err-header-clause-claim c =
 
 pub returns-in-Some-clause-told : goal.returns-in-Some-clause-told
 returns-in-Some-clause-told c =
-    by_state_lem c.args.s.now c.in_ok-header.header c.in_ok-header.ensures _ _ _ c.span_of-area.ensures.start c.span_of-area.ensures.end
-    (sym c.in-Some.is ∙ c.check_header.ensures ∙ ap (λ (f : List ℕ). state_from f c.span_of-area.result.start) c.front.ensures.2)
+    rw c.with_checksum.ensures
+    (by_state_lem c.args.s.now c.in_ok-header.header c.in_ok-header.ensures _ _ _ c.span_of-area.ensures.start c.span_of-area.ensures.end
+    (sym c.in-Some.is ∙ c.check_header.ensures ∙ ap (λ (f : List ℕ). state_from f c.span_of-area.result.start) c.front.ensures.2))
 
 pub returns-in-Some-clause-claim : goal.returns-in-Some-clause-claim
 returns-in-Some-clause-claim c = claimed c.args.s.now _ (returns-in-Some-clause-told c)

@@ -54,7 +54,8 @@ returns c =
     let h = d.head_length-n.ensures in
     let n = d.block_length.ensures in
     let same = tested.if-s-size.false in
-    let made = ap (with_checksum (checksum d))
+    let made = c.with_checksum.ensures
+    ∙ ap (with_checksum (checksum d))
     (found.addresses_of.ensures
     ∙ ap (block_record (kind d)) (tail_all d.head_length-n.result (bytes d) ∙ ap (λ (m : ℕ). drop m (bytes d)) h))
     in
