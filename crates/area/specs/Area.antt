@@ -1,9 +1,10 @@
--- The TLV area of a header, as a part of the bytes read.
-use Rattle.std.specs.Prelude.{List, ℕ, ◌+◌, min, eqb, take}
+-- The TLV area of a reading, as a part of the bytes read.
+use Rattle.std.specs.Prelude.{List, [], ℕ, ◌+◌, min, eqb, take, Result, Ok, Err}
 use Rattle.exact.specs.Pick.{pick}
 use Rattle.record.specs.declared.Kind.{Kind}
 use Rattle.record.specs.Kinds.{block_length}
 use Rattle.answer.specs.declared.Header.{Header}
+use Rattle.answer.specs.declared.Stop.{Stop}
 use Rattle.answer.specs.Answers.{area_of}
 
 -- the area of a header at the front of the bytes; empty for version 1, local and unspecified
@@ -16,3 +17,12 @@ span_end n version kind size = pick (eqb version 2) (pick (eqb (block_length kin
 
 abbrev pub span_start : (n version : ℕ) → Kind → ℕ → ℕ
 span_start n version kind size = min (16 + block_length kind) (span_end n version kind size)
+
+-- that of a reading: "it is empty for version 1, local, unspecified and every verdict but accepted"
+abbrev pub read_area : Result Header Stop → List ℕ → List ℕ
+read_area (Ok h) s = header_area h s
+read_area (Err e) s = []
+
+abbrev pub area_start : Result Header Stop → ℕ → ℕ
+area_start (Ok h) size = span_start h.length h.version h.«record».kind size
+area_start (Err e) size = 0

@@ -1,10 +1,10 @@
-// The TLV area of a header: where it lies in the bytes read, and the part itself. No public function has a `requires`.
+// The TLV area of a reading: where it lies in the bytes read, and the part itself. No public function has a `requires`.
 #![tactic(auto)]
 
 ghost use Rattle.std.specs.Prelude.{◌≡◌, ◌+◌, length};
-ghost use Rattle.area.specs.Area.{span_start, span_end, header_area};
+ghost use Rattle.area.specs.Area.{span_start, span_end, header_area, area_start, read_area};
 
-use answer::Header;
+use answer::{Header, Stop};
 use record::{Kind, block_length};
 
 // Where a part of the bytes read begins and ends.
@@ -33,11 +33,23 @@ pub fn span_of(length: usize, version: u8, kind: Kind, size: usize) -> Span
 }
 
 // The TLV area of a header of s, as the very part of s; empty where there is none.
-pub fn tlv_area<'a>(s: &'a [u8], header: &Header) -> &'a [u8]
+pub fn header_area<'a>(s: &'a [u8], header: &Header) -> &'a [u8]
     ensures { (result.ref_ptr.0 ≡ s.entry.ref_ptr.0)
         × (result.ref_ptr.1 ≡ s.entry.ref_ptr.1 + span_start header.now.length header.now.version header.now.«record».kind (length s.now))
         × (result.now ≡ header_area header.now s.now) }
 {
     let span = span_of(header.length, header.version, header.record.kind, s.len());
     &s[span.start..span.end]
+}
+
+// The TLV area of a reading of s, as the very part of s; empty where there is none, as in bytes that do not begin with a whole header.
+pub fn tlv_area<'a>(s: &'a [u8], reading: &Result<Header, Stop>) -> &'a [u8]
+    ensures { (result.ref_ptr.0 ≡ s.entry.ref_ptr.0)
+        × (result.ref_ptr.1 ≡ s.entry.ref_ptr.1 + area_start reading.now (length s.now))
+        × (result.now ≡ read_area reading.now s.now) }
+{
+    match reading {
+        Ok(header) => header_area(s, header),
+        Err(_) => &s[..0],
+    }
 }

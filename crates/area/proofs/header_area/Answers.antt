@@ -1,7 +1,7 @@
 -- The part between the span's ends is the area.
 use Rattle.std.proofs.Common.{refl, ap₂, ◌∙◌, ℕ, ◌-◌, arith, length, take, drop}
 use Rattle.area.proofs.AreaLaws.{span_inside, span_part}
-use Rattle.area.proofs.tlv_area.Goals as goal
+use Rattle.area.proofs.header_area.Goals as goal
 
 pub slice_bounds-result-end : goal.slice_bounds-result-end
 slice_bounds-result-end c =
