@@ -1,5 +1,5 @@
 -- Lemmas on what specs/Again.antt defines.
-use Rattle.std.specs.Prelude.{◌≡◌, refl, Bool, true, false, not, List, [], ◌∷◌, ℕ, zero, suc, ◌+◌, ◌^◌, ◌≤◌, ◌<◌, eqb, ltb, leb, length, take, drop, Option, Some, None, Ok}
+use Rattle.std.specs.Prelude.{◌≡◌, refl, Bool, true, false, not, List, [], ◌∷◌, ℕ, zero, suc, ◌+◌, ◌^◌, ◌≤◌, ◌<◌, eqb, ltb, leb, length, take, drop, Option, Some, None, Ok, option_copied}
 use Rattle.std.proofs.Common.{sym, ap, ◌∙◌, subst, arith, eqb-true, ltb-true, ltb-false, leb-true, leb-false, lt-ltb, le-ltb, le-leb, ne_eqb, length-append, length-drop, length-take-le}
 use Rattle.std.proofs.lemmas.Bool.{eqb-false}
 use Rattle.std.specs.Borrow.{Bor}
@@ -16,7 +16,7 @@ use Rattle.ssl_reader.specs.declared.Ssl.{Ssl}
 use Rattle.ssl_reader.specs.Told.{told_ssl, PartOf}
 use Rattle.ssl_reader.proofs.Laws.{Lies, part_lies, accepted_reads}
 use Rattle.ssl_reader.specs.Laws.{Reads}
-use Rattle.ssl_writer.specs.Written.{Piece, piece_if, pieces_of, subs_for, ssl_value}
+use Rattle.ssl_writer.specs.Written.{Piece, piece_if, lent_pieces, pieces_of, subs_for, ssl_value}
 use Rattle.ssl_writer.specs.Writes.{ReadsAs}
 use Rattle.ssl_writer.specs.ReadBack.{OfBytes}
 use Rattle.ssl_writer.proofs.ReadBack.{absent_same, reads_back}
@@ -198,5 +198,35 @@ calls_again value a b c d e r told v n x s k =
     ∷ given_again value c r.cipher x i
     ∷ given_again value d r.signature s i
     ∷ given_again value e r.key k i
+    ∷ []))
+    ∙ ap (text_of value.now) told
+
+-- a piece as `write_ssl` takes it: none where there is none, and else the part that `piece_of` lends
+pub record Lent (value : Bor (List ℕ)) (p : Part) (o : Option (Bor (List ℕ))) : Type 0 where
+  pub part : Bor (List ℕ)
+  pub is : o ≡ Some part
+  pub lies : PartOf value (Some p) part
+
+abbrev pub Handed : Bor (List ℕ) → Option Part → Option (Bor (List ℕ)) → Type 0
+Handed value None o = o ≡ None
+Handed value (Some p) o = Lent value p o
+
+handed : (value : Bor (List ℕ)) (p : Option Part) (o : Option (Bor (List ℕ))) → Handed value p o → option_copied o ≡ piece_in value.now p
+handed value None o h = ap option_copied h
+handed value (Some p) o h = ap option_copied h.is ∙ ap Some h.lies.2
+
+-- so the array of these, handed to `write_ssl`, is written as the value again
+pub handed_again : (value : Bor (List ℕ)) (a b c d e : Option (Bor (List ℕ))) (r : Ssl) → told_ssl (Ok r) ≡ said_in value.now → Handed value r.version a
+    → Handed value r.common_name b → Handed value r.cipher c → Handed value r.signature d
+    → Handed value r.key e
+    → ssl_value r.client r.verify (lent_pieces (a ∷ b ∷ c ∷ d ∷ e ∷ [])) ≡ text_of value.now (said_in value.now)
+handed_again value a b c d e r told v n x s k =
+    (λ i.
+    ssl_value r.client r.verify
+    (handed value r.version a v i
+    ∷ handed value r.common_name b n i
+    ∷ handed value r.cipher c x i
+    ∷ handed value r.signature d s i
+    ∷ handed value r.key e k i
     ∷ []))
     ∙ ap (text_of value.now) told
