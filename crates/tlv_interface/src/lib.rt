@@ -1,15 +1,15 @@
 // Looking into a TLV area, as C callers ask for it. No public function has a `requires`.
 #![tactic(auto)]
 
-ghost use Rattle.std.specs.Prelude.{◌≡◌, ℕ, drop};
+ghost use Rattle.std.specs.Prelude.{◌≡◌, ◌+◌, ◌^◌, ◌<◌, ℕ, drop};
 ghost use Rattle.tlv.specs.Tlv.{WellFormed};
-ghost use Rattle.tlv_step.specs.Step.{told_step, head_at, step_at, place_after};
+ghost use Rattle.tlv_step.specs.Step.{told_step, head_at, step_at, start_of, length_of, place_after};
 ghost use Rattle.lookup.specs.Lookup.{told_lookup};
 ghost use Rattle.tlv_interface.specs.TlvInterface.{lookup_numbers, LookupTold, StepTold};
 
 use lookup::{Answer, Examined, lookup};
 use numbers::{NUMBERS, lookup_number, put_all, put_numbers};
-use tlv_step::{IllFormed, Part, Tlv, head_at, place_of};
+use tlv_step::{IllFormed, Part, Tlv, head_at};
 use walker::Walker;
 
 // What was looked up, as numbers; where nothing is found, 0 for a start and a length.
@@ -72,6 +72,17 @@ fn tell_step(shown: Result<Option<Tlv>, IllFormed>, behind: usize, numbers: &mut
     }
 }
 
+// The place behind what is shown at a place.
+fn behind(at: usize, shown: Result<Option<Tlv>, IllFormed>) -> usize
+    requires { start_of (told_step shown) + length_of (told_step shown) < 2 ^ 64 }
+    ensures { result ≡ place_after at (told_step shown) }
+{
+    match shown {
+        Ok(Some(Tlv { value, .. })) => value.start + value.size,
+        _ => at,
+    }
+}
+
 // One step over a TLV area from a place: it looks at all that remains.
 pub fn step(area: &[u8], at: usize, numbers: &mut [u64]) -> u32
     ensures { StepTold at (step_at area.now at) numbers.old result numbers.new }
@@ -87,5 +98,5 @@ pub fn next(area: &[u8], at: usize, numbers: &mut [u64]) -> u32
         × (WellFormed (drop at area.now) → StepTold at (step_at area.now at) numbers.old result numbers.new) }
 {
     let shown = head_at(area, at);
-    tell_step(shown, place_of(area, at, shown), numbers)
+    tell_step(shown, behind(at, shown), numbers)
 }
