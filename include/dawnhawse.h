@@ -46,10 +46,10 @@
 #include <stdint.h>
 
 /* The release of the library; README says what each of its numbers counts. */
-#define DAWNHAWSE_RELEASE "0.8.3"
+#define DAWNHAWSE_RELEASE "0.8.4"
 #define DAWNHAWSE_RELEASE_MAJOR 0
 #define DAWNHAWSE_RELEASE_MINOR 8
-#define DAWNHAWSE_RELEASE_PATCH 3
+#define DAWNHAWSE_RELEASE_PATCH 4
 
 #ifdef __cplusplus
 extern "C" {

@@ -37,8 +37,9 @@ pub fn put(bytes: &[u8], out: &mut [u8], at: usize)
 {
     if at <= out.len() {
         if bytes.len() <= out.len() - at {
-            let end = at + bytes.len();
-            out[at..end].copy_from_slice(bytes);
+            for (i, byte) in bytes.iter().enumerate() {
+                out[at + i] = *byte;
+            }
         }
     }
 }
