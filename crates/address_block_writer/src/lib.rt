@@ -18,8 +18,8 @@ fn put_port(kind: Kind, port: u16, out: &mut [u8], at: usize)
 }
 
 // Puts the record's address block at this place of the output, where it fits; else the output stays as it is.
-pub fn put_addresses(r: Record, out: &mut [u8], at: usize)
-    ensures { out.new ≡ placed (address_block r) at out.old }
+pub fn put_addresses(r: &Record, out: &mut [u8], at: usize)
+    ensures { out.new ≡ placed (address_block r.now) at out.old }
 {
     if out.len() < at {
         return;

@@ -60,7 +60,7 @@ pub fn in_order(
 fn check(from: Record, area: &[u8], room: usize) -> Result<usize, Fault>
     ensures { told_written result ≡ block_answer from area.now room }
 {
-    let good = plain(from);
+    let good = plain(&from);
     // The area may be long: it is looked at for a record that is good.
     let fits = good && area_fits(from.kind, area);
     in_order(good, fits, block_length(from.kind), area.len(), room)
@@ -68,8 +68,8 @@ fn check(from: Record, area: &[u8], room: usize) -> Result<usize, Fault>
 
 // Puts a header's first sixteen bytes, with this size of the block, its address block, and the area behind it at the front of the output; each part
 // only where it fits.
-pub fn put_block(from: Record, size: u16, area: &[u8], out: &mut [u8])
-    ensures { out.new ≡ block_placed from size area.now out.old }
+pub fn put_block(from: &Record, size: u16, area: &[u8], out: &mut [u8])
+    ensures { out.new ≡ block_placed from.now size area.now out.old }
 {
     put_head(from.kind, size, out);
     put_addresses(from, out, 16);
@@ -85,6 +85,6 @@ pub fn write_block(from: Record, area: &[u8], out: &mut [u8]) -> Result<usize, F
         × ReadsBack from area.now (told_written result) out.new }
 {
     let n = check(from, area, out.len())?;
-    put_block(from, (n - 16) as u16, area, out);
+    put_block(&from, (n - 16) as u16, area, out);
     Ok(n)
 }

@@ -31,7 +31,7 @@ fn request_fits(kind: Kind, area: &[u8]) -> bool
 fn check(from: Record, area: &[u8], room: usize) -> Result<usize, Fault>
     ensures { told_written result ≡ checked_answer from area.now room }
 {
-    let good = clean(from);
+    let good = clean(&from);
     // The area may be long: it is looked at for a record that is good.
     let fits = good && request_fits(from.kind, area);
     in_order(good, fits, block_length(from.kind) + 7, area.len(), room)
@@ -46,7 +46,7 @@ pub fn write_checked(from: Record, area: &[u8], out: &mut [u8]) -> Result<usize,
         × ReadsBack from area.now (told_written result) out.new }
 {
     let n = check(from, area, out.len())?;
-    put_block(from, (n - 16) as u16, area, out);
+    put_block(&from, (n - 16) as u16, area, out);
     put_tlv(0x03, &[0; 4], out, n - 7);
     let sum = network_bytes(crc32c(front(out, n)));
     put(&sum, out, n - 4);

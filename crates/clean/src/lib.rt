@@ -51,9 +51,9 @@ pub fn clean_state(kind: Kind, checksum: Checksum) -> bool
     }
 }
 
-// Whether the record passes all of these tests.
-fn passes(r: &Record) -> bool
-    ensures { result ≡ clean_test r.now }
+// Whether the address bytes and ports that the record's kind does not use are zero, and its state may stand beside the kind.
+pub fn clean(r: &Record) -> bool
+    ensures { (result ≡ clean_test r.now) × (result ≡ true → Clean r.now) × (Clean r.now → result ≡ true) }
 {
     clean_address(r.kind, &r.source)
         && clean_address(r.kind, &r.destination)
@@ -62,16 +62,9 @@ fn passes(r: &Record) -> bool
         && clean_state(r.kind, r.checksum)
 }
 
-// Whether the address bytes and ports that the record's kind does not use are zero, and its state may stand beside the kind.
-pub fn clean(r: Record) -> bool
-    ensures { (result ≡ clean_test r) × (result ≡ true → Clean r) × (Clean r → result ≡ true) }
-{
-    passes(&r)
-}
-
 // Whether the record is clean, and its state absent.
-pub fn plain(r: Record) -> bool
-    ensures { (result ≡ plain_test r) × (result ≡ true → Plain r) × (Plain r → result ≡ true) }
+pub fn plain(r: &Record) -> bool
+    ensures { (result ≡ plain_test r.now) × (result ≡ true → Plain r.now) × (Plain r.now → result ≡ true) }
 {
     clean(r) && is_absent(r.checksum)
 }

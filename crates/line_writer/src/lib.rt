@@ -37,7 +37,7 @@ fn check(from: Record, n: usize, room: usize) -> Result<usize, Fault>
     if !has_form(from.kind) {
         return Err(Fault::Form);
     }
-    if !plain(from) {
+    if !plain(&from) {
         return Err(Fault::Unused);
     }
     if room < n {

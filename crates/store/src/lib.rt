@@ -16,12 +16,12 @@ use stored_form::{StoredVersion, head_length, keeps, version_byte};
 
 // What is answered for an output of this size: a record that is not clean (11), a state that the version cannot say (24), an output that is too short (14),
 // or the length. (The record by value: of one behind a reference only the parts that a body reads are known, and `in_memory` takes all. Not inlined:
-// its copy and that of `put_addresses` would lie on the stack side by side.)
+// the copy that it lends to `clean` would lie on the caller's stack.)
 #[inline(never)]
 fn check(from: Record, version: StoredVersion, room: usize) -> Result<usize, Fault>
     ensures { told_written result ≡ store_answer version from room }
 {
-    if !clean(from) {
+    if !clean(&from) {
         return Err(Fault::Unused);
     }
     if !keeps(version, from.checksum) {
@@ -53,6 +53,6 @@ pub fn store(from: Record, version: StoredVersion, out: &mut [u8]) -> Result<usi
         state_byte(from.checksum),
     ];
     put(&head[..n], out, 0);
-    put_addresses(from, out, n);
+    put_addresses(&from, out, n);
     Ok(written)
 }

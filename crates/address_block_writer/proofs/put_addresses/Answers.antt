@@ -41,19 +41,19 @@ pub returns : goal.returns
 returns c =
     let x = c.args in
     let n = c.block_length.ensures in
-    let room : x.at + block_length x.r.kind ≤ length x.out.now = let a = c.if-out-at.false in let b = c.if-out-at-2.false in omega arith in
-    whole x.r (search rules) (search rules) x.at c.address_length-n.result c.port_length-m.result c.address_length-n.ensures c.port_length-m.ensures x.out.now
+    let room : x.at + block_length x.r.now.kind ≤ length x.out.now = let a = c.if-out-at.false in let b = c.if-out-at-2.false in omega arith in
+    whole x.r.now (search rules) (search rules) x.at c.address_length-n.result c.port_length-m.result c.address_length-n.ensures c.port_length-m.ensures x.out.now
     c.put.new.out c.put-2.new.out c.put_port.new.out c.put_port-2.new.out room
     (c.put.ensures ∙ ap (λ (l : List ℕ). placed l x.at x.out.now) c.front.ensures.2)
     (c.put-2.ensures ∙ ap (λ (l : List ℕ). placed l (x.at + c.address_length-n.result) c.put.new.out) c.front-2.ensures.2)
     c.put_port.ensures c.put_port-2.ensures
 
 pub returns-then-out-at : goal.returns-then-out-at
-returns-then-out-at c = let x = c.args in sym (placed_else (address_block x.r) x.at x.out.now (omega arith))
+returns-then-out-at c = let x = c.args in sym (placed_else (address_block x.r.now) x.at x.out.now (omega arith))
 
 pub returns-then-out-at-2 : goal.returns-then-out-at-2
 returns-then-out-at-2 c =
     let x = c.args in
-    let size = block_size x.r (search rules) (search rules) in
+    let size = block_size x.r.now (search rules) (search rules) in
     let n = c.block_length.ensures in
-    sym (placed_else (address_block x.r) x.at x.out.now (omega arith))
+    sym (placed_else (address_block x.r.now) x.at x.out.now (omega arith))
