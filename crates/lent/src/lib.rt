@@ -37,6 +37,7 @@ pub fn put(bytes: &[u8], out: &mut [u8], at: usize)
 {
     if at <= out.len() {
         if bytes.len() <= out.len() - at {
+            // No `copy_from_slice`: that is a call of memmove, also where there is no byte (docs/DECISIONS.md).
             for (i, byte) in bytes.iter().enumerate() {
                 out[at + i] = *byte;
             }
