@@ -49,25 +49,38 @@ parts_noted zero type subs t = refl
 parts_noted (suc n) type subs t =
     ap₂ {B = List (Option Part)} (λ (p : Option Part) (l : List (Option Part)). p ∷ l) (part_noted subs t type) (parts_noted n (suc type) subs t)
 
--- sub-TLVs at their places in the value, noted one after the other
+-- sub-TLVs at their places behind the first five bytes, noted one after the other
 abbrev pub noted_all : List Placed → List (Option Part) → List (Option Part)
 noted_all [] parts = parts
-noted_all (t ∷ rest) parts = noted_all rest (noted t.tlv_type t.value 0x21 parts)
+noted_all (t ∷ rest) parts = noted_all rest (noted t.tlv_type (record { start = 5 + t.value.start; size = t.value.size }) 0x21 parts)
 
-all_noted : (front rest : List Tlv) → noted_all (placed (5 + length (written front)) rest) (parts_of front) ≡ parts_of (front ++ rest)
+all_noted : (front rest : List Tlv) → noted_all (placed (length (written front)) rest) (parts_of front) ≡ parts_of (front ++ rest)
 all_noted front [] = ap parts_of (sym (append-nil front))
 all_noted front (t ∷ rest) =
     let n = length-append (written front) (written (t ∷ [])) in
     let v = length-append t.value [] in
-    let start : 5 + length (written front) + 3 ≡ 5 + (length (written front) + 3) = omega arith in
-    let next : 5 + length (written front) + 3 + length t.value ≡ 5 + length (written (front ++ t ∷ [])) =
+    let next : length (written front) + 3 + length t.value ≡ length (written (front ++ t ∷ [])) =
     omega (arith, ap length (written-append front (t ∷ []))) in
-    ap (λ (k : ℕ). noted_all (placed (5 + length (written front) + 3 + length t.value) rest)
-    (noted t.type (record { start = k; size = length t.value }) 0x21 (parts_of front))) start
-    ∙ ap₂ (λ (at : ℕ) (parts : List (Option Part)). noted_all (placed at rest) parts) next (sym (parts_noted 5 0x21 front t))
+    ap₂ (λ (at : ℕ) (parts : List (Option Part)). noted_all (placed at rest) parts) next (sym (parts_noted 5 0x21 front t))
     ∙ all_noted (front ++ t ∷ []) rest
     ∙ ap parts_of (append_assoc front (t ∷ []) rest)
 
 -- so the pieces of all of them are those of the list
-pub pieces_noted : (value : List ℕ) → noted_all (left_from value 5) (replicate 5 None) ≡ parts_of (tlvs_of (drop 5 value))
-pieces_noted value = all_noted [] (tlvs_of (drop 5 value))
+pub pieces_noted : (s : List ℕ) → noted_all (left_from s 0) (replicate 5 None) ≡ parts_of (tlvs_of s)
+pieces_noted s = all_noted [] (tlvs_of s)
+
+-- the same of sub-TLVs at their places in the value
+abbrev pub noted_within : List Placed → List (Option Part) → List (Option Part)
+noted_within [] parts = parts
+noted_within (t ∷ rest) parts = noted_within rest (noted t.tlv_type t.value 0x21 parts)
+
+within_same : (n : ℕ) (rest : List Tlv) (parts : List (Option Part)) → noted_within (placed (5 + n) rest) parts ≡ noted_all (placed n rest) parts
+within_same n [] parts = refl
+within_same n (t ∷ rest) parts =
+    let start : 5 + n + 3 ≡ 5 + (n + 3) = omega arith in
+    let next : 5 + n + 3 + length t.value ≡ 5 + (n + 3 + length t.value) = omega arith in
+    ap₂ (λ (k at : ℕ). noted_within (placed at rest) (noted t.type (record { start = k; size = length t.value }) 0x21 parts)) start next
+    ∙ within_same (n + 3 + length t.value) rest (noted t.type (record { start = 5 + (n + 3); size = length t.value }) 0x21 parts)
+
+pub pieces_within : (value : List ℕ) → noted_within (left_from value 5) (replicate 5 None) ≡ parts_of (tlvs_of (drop 5 value))
+pieces_within value = within_same 0 (tlvs_of (drop 5 value)) (replicate 5 None) ∙ pieces_noted (drop 5 value)

@@ -18,7 +18,7 @@ use Rattle.tlv_step.proofs.Facts.{head_due, head_end, head_shown}
 use Rattle.tlv_step.proofs.Left.{left_end, left_first}
 use Rattle.ssl_reader.specs.Ssl.{Part, Said, part_of, parts_of, subs_of, accepted, is_absent, lacks_version, nothing, client_of, verify_of, said_by, said_in}
 use Rattle.ssl_reader.specs.Noted.{found_part, found_parts, noted}
-use Rattle.ssl_reader.proofs.Noted.{noted_all, pieces_noted}
+use Rattle.ssl_reader.proofs.Noted.{noted_within, pieces_within}
 use Rattle.ssl_reader.proofs.NoteLaws.{none_yet, found_at}
 
 absent_by : (v : Option Part) (b : Bool) → is_some v ≡ not b → is_absent v ≡ b
@@ -32,11 +32,11 @@ pub record Passing (value : List ℕ) (pieces : List Part) (at : ℕ) : Type 0 w
   pub long : 5 ≤ length value
   pub inside : at ≤ length value
   pub whole : well_formed (drop at value) ≡ well_formed (drop 5 value)
-  pub noted : well_formed (drop at value) ≡ true → noted_all (left_from value at) (found_parts pieces) ≡ parts_of (subs_of value)
+  pub noted : well_formed (drop at value) ≡ true → noted_within (left_from value at) (found_parts pieces) ≡ parts_of (subs_of value)
 
 module _ (value : List ℕ) where
   pub passing_none : 5 ≤ length value → Passing value (replicate 5 (record { start = 0; size = 0 })) 5
-  passing_none h = record { long = h; inside = h; whole = refl; noted = λ w. pieces_noted value }
+  passing_none h = record { long = h; inside = h; whole = refl; noted = λ w. pieces_within value }
 
   module _ (at : ℕ) where
     -- where a TLV is shown it ends in the value
@@ -104,7 +104,7 @@ module _ (value : List ℕ) where
                 long = p.long;
                 inside = omega (arith, h.room, next);
                 whole = l.0 ∙ sym w ∙ p.whole;
-                noted = λ u. ap (noted_all (left_from value (t.value.start + t.value.size))) e ∙ sym (ap (λ (l : List Tlv). noted_all l (found_parts pieces)) l.1) ∙ p.noted w;
+                noted = λ u. ap (noted_within (left_from value (t.value.start + t.value.size))) e ∙ sym (ap (λ (l : List Tlv). noted_within l (found_parts pieces)) l.1) ∙ p.noted w;
               }
           by false w =
               let ill : well_formed (drop (t.value.start + t.value.size) value) ≡ false =
@@ -137,7 +137,7 @@ module _ (value : List ℕ) where
         parts : found_parts pieces ≡ parts_of (subs_of value)
         parts =
             let w = ended p.inside told in
-            sym (ap (λ (l : List Tlv). noted_all l (found_parts pieces)) (left_end value at w told)) ∙ p.noted w
+            sym (ap (λ (l : List Tlv). noted_within l (found_parts pieces)) (left_end value at w told)) ∙ p.noted w
 
         piece : (i : ℕ) → found_part (get_or pieces i none_yet) ≡ get_or (parts_of (subs_of value)) i None
         piece i = sym (found_at i pieces) ∙ ap (λ (l : List (Option Part)). get_or l i None) parts
